@@ -1,0 +1,5 @@
+pub mod Places
+pub mod Promise
+pub mod Market
+pub mod Laws
+pub mod ByPoints
