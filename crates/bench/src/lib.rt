@@ -1,0 +1,1 @@
+// A workshop's bench: the best of those who asked, as many as it has places.

@@ -1,0 +1,4 @@
+// Reading and writing the bytes of a round.
+mod tables;
+
+pub use tables::Round;

@@ -1,0 +1,1 @@
+// Points and lots: who goes ahead of whom, and each list entry's row.
