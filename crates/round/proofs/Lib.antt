@@ -1,0 +1,3 @@
+-- Lemmas over the definitions of specs/: counting, then the theory of markets, then the theorems.
+pub mod Count
+pub mod Theorems
