@@ -10,6 +10,10 @@ use Rattle.round.specs.Market.{Wish, Market, Lawful, Reached, start, then, Mov
 use Rattle.round.proofs.Count.{sum-mono, sum-same, sum-less, find}
 use Rattle.round.proofs.Askers.{asked-from, asked-parts, asked-more, here-from, here-parts, here-asked, turned-parts, turned-from, kept-from-unturned, move-stays, move-on, refused-stays}
 
+-- u is closed at the workshops of k under the lists w
+abbrev pub Closed-under : Market → Wish → (ℕ → ℕ) → Type 0
+Closed-under k w u = (p a : ℕ) → here w u p a ≡ true → k .keeps p (asked w u p) a ≡ true
+
 module _ (k : Market) where
   -- nobody is turned down
   abbrev pub Quiet : (ℕ → ℕ) → Type 0

@@ -3,4 +3,6 @@ pub mod Count
 pub mod Askers
 pub mod Ends
 pub mod Stability
+pub mod Newcomer
+pub mod Coalition
 pub mod Theorems
