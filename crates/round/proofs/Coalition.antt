@@ -42,16 +42,20 @@ module _ (k : Market) (law : Lawful k) (w : Wish) (listed : Listed (k .n) (k .m)
     where
       Z : ℕ → Bool
       Z = mixed G (here w u p) Q
+
       in-Q : Within Z Q
       in-Q a h = elim (cases-bool (G a)) [ inl t ↦ win a t (grind arith) | inr e ↦ grind arith ]
+
       in-asked : Within Z (asked w u p)
       in-asked a h = elim (cases-bool (G a)) [ inl t ↦ here-asked w u p a (grind arith) | inr e ↦ other a e (grind arith) ]
+
       outside : (a : ℕ) → (k .keeps p Q a && not (G a)) ≡ true → (k .keeps p Z a && not (G a)) ≡ true
       outside a h =
           let i = and-parts (k .keeps p Q a) (not (G a)) h in
           let q = law .way .own p Q a (i .0) in
           let z : Z a ≡ true = grind arith in
           and-from (k .keeps p Z a) (not (G a)) (law .way .substitutes p Z Q in-Q a z (i .0)) (i .1)
+
       inside : (a : ℕ) → (here w u p a && G a) ≡ true → (k .keeps p Z a && G a) ≡ true
       inside a h =
           let i = and-parts (here w u p a) (G a) h in
@@ -74,12 +78,12 @@ module _ (k : Market) (law : Lawful k) (w : Wish) (listed : Listed (k .n) (k .m)
   here-at-least p =
       let f = final k in
       let kept = winners-kept p (asked (k .wish) f p)
-        (λ a g h. let l = winner-passed p a g h in let i = final-within a in asked-from (k .wish) f p a (omega arith) (omega arith))
-        (gain .others p) in
+      (λ a g h. let l = winner-passed p a g h in let i = final-within a in asked-from (k .wish) f p a (omega arith) (omega arith))
+      (gain .others p) in
       let fewer = count-mono (λ a. k .keeps p (asked (k .wish) f p) a && G a) (λ a. here (k .wish) f p a && G a) (k .n)
-        (λ a _ h.
-          let i = and-parts (k .keeps p (asked (k .wish) f p) a) (G a) h in
-          and-from (here (k .wish) f p a) (G a) (kept-here k law f (final-steady k law .justified) p a (i .0)) (i .1)) in
+      (λ a _ h.
+      let i = and-parts (k .keeps p (asked (k .wish) f p) a) (G a) h in
+      and-from (here (k .wish) f p a) (G a) (kept-here k law f (final-steady k law .justified) p a (i .0)) (i .1)) in
       omega arith
 
   -- in all, as many of G win as there are
@@ -119,49 +123,61 @@ module _ (k : Market) (law : Lawful k) (w : Wish) (listed : Listed (k .n) (k .m)
       let enough = winners-kept p Q win (λ c e q. gain .others p c e (asked-more (k .wish) s f p before c q)) in
       let same = here-same p (law .listed .small a (f a) placed) in
       let fewer = count-less (λ c. k .keeps p Q c && G c) (λ c. here (k .wish) f p c && G c) (k .n) (λ c _. stays c) a l
-        (and-from (here (k .wish) f p a) (G a) (here-from (k .wish) f p a at-end (omega (arith, at-end, placed))) g) not-kept in
+      (and-from (here (k .wish) f p a) (G a) (here-from (k .wish) f p a at-end (omega (arith, at-end, placed))) g) not-kept in
       omega arith
     where
       s : ℕ → ℕ
       s = run k t
+
       f : ℕ → ℕ
       f = final k
+
       p : ℕ
       p = k .wish .entry a (f a)
+
       Q : ℕ → Bool
       Q = asked (k .wish) s p
+
       before : (c : ℕ) → s c ≤ f c
       before = reached-least k law s f (run-reached k t) (final-closed k law)
+
       placed : f a < k .wish .len a
       placed = G-placed a l g
+
       at-end : k .wish .pos a p ≡ f a
       at-end = law .listed .there a (f a) placed
+
       step : (c : ℕ) → G c ≡ true → (f c ≡ s c) ⊎ ((turned k s c ≡ true) × (f c ≡ s c + 1))
       step c gc = elim (move-moves k s c) [ inl e ↦ inl (sym (settled c gc) ∙ e) | inr e ↦ inr (e .0, sym (settled c gc) ∙ e .1) ]
+
       win : (c : ℕ) → G c ≡ true → here w u p c ≡ true → Q c ≡ true
       win c gc h =
           let x = winner-passed p c gc h in
           let y = final-within c in
           let z : f c ≤ s c + 1 = elim (step c gc) [ inl e ↦ omega arith | inr e ↦ omega arith ] in
           asked-from (k .wish) s p c (omega arith) (omega arith)
+
       stays : (c : ℕ) → (k .keeps p Q c && G c) ≡ true → (here (k .wish) f p c && G c) ≡ true
       stays c h =
           let i = and-parts (k .keeps p Q c) (G c) h in
           let j = here-parts (k .wish) s p c (kept-here k law s (reached-justified k law s (run-reached k t)) p c (i .0)) in
-          elim (step c (i .1))
-          [ inl e ↦ and-from (here (k .wish) f p c) (G c) (here-from (k .wish) f p c (omega arith) (j .1)) (i .1)
-          | inr e ↦
-            let e′ : k .wish .entry c (s c) ≡ p = cc (law .listed .back c p (j .1), j .0) in
-            let out = subst (λ (x : ℕ). k .keeps x (asked (k .wish) s x) c ≡ false) e′ (turned-parts k s c (e .0) .1) in
-            absurd (false≢true (sym out ∙ i .0)) ]
+          elim (step c (i .1)) [
+            | inl e ↦ and-from (here (k .wish) f p c) (G c) (here-from (k .wish) f p c (omega arith) (j .1)) (i .1)
+            | inr e ↦
+                let e′ : k .wish .entry c (s c) ≡ p = cc (law .listed .back c p (j .1), j .0) in
+                let out = subst (λ (x : ℕ). k .keeps x (asked (k .wish) s x) c ≡ false) e′ (turned-parts k s c (e .0) .1) in
+                absurd (false≢true (sym out ∙ i .0))
+          ]
+
       not-kept : (k .keeps p Q a && G a) ≡ false
       not-kept =
-          elim (cases-bool (k .keeps p Q a))
-          [ inl h ↦
-            let i = asked-parts (k .wish) s p a (law .way .own p Q a h) in
-            let b = before a in
-            absurd (ne (omega (arith, at-end)))
-          | inr e ↦ and-left (k .keeps p Q a) (G a) e ]
+          elim (cases-bool (k .keeps p Q a)) [
+            | inl h ↦
+                let i = asked-parts (k .wish) s p a (law .way .own p Q a h) in
+                let b = before a in
+                absurd (ne (omega (arith, at-end)))
+            | inr e ↦ and-left (k .keeps p Q a) (G a) e
+          ]
 
   G-below : (a : ℕ) → G a ≡ true → a < k .n
   G-below a g = let x = gain .dearer a g in let y = final-within a in listed-below k law a 0 (omega (arith, x, y))
@@ -170,11 +186,12 @@ module _ (k : Market) (law : Lawful k) (w : Wish) (listed : Listed (k .n) (k .m)
   unfolding run
   not-settled zero settled b g = let x = gain .dearer b g in let y = settled b g in omega (arith, x, y)
   not-settled (suc t) settled b g =
-      elim (find (λ a. G a && not (eqb (run k t a) (final k a))) (k .n))
-      [ inl h ↦
-        let i = and-parts (G (h .0)) (not (eqb (run k t (h .0)) (final k (h .0)))) (h .2) in
-        no-last-step t settled (h .0) (h .1) (i .0) (λ e. grind (arith, tells))
-      | inr none ↦ not-settled t (λ a ga. let e = none a (G-below a ga) in grind (arith, tells)) b g ]
+      elim (find (λ a. G a && not (eqb (run k t a) (final k a))) (k .n)) [
+        | inl h ↦
+            let i = and-parts (G (h .0)) (not (eqb (run k t (h .0)) (final k (h .0)))) (h .2) in
+            no-last-step t settled (h .0) (h .1) (i .0) (λ e. grind (arith, tells))
+        | inr none ↦ not-settled t (λ a ga. let e = none a (G-below a ga) in grind (arith, tells)) b g
+      ]
 
   -- nobody is of G
   pub G-empty : (b : ℕ) → G b ≡ true → ⊥
@@ -191,31 +208,36 @@ not-all-gain-under k law w listed u cl liar same b l lb dear =
   where
     G : ℕ → Bool
     G a = ltb (k .wish .pos a (held (with-wish k w) u a)) (final k a)
+
     placed : (a : ℕ) → G a ≡ true → u a < w .len a
     placed a g =
-        elim (cases-lt (u a) (w .len a))
-        [ inl h ↦ h
-        | inr h ↦
-          let none : held (with-wish k w) u a ≡ k .m = grind (arith, tells) in
-          let x : k .wish .pos a (k .m) < final k a = grind (arith, tells) in
-          let y = final-steady k law .within a in
-          let z = law .listed .back a (k .m) (omega arith) in
-          let m = law .listed .small a (k .wish .pos a (k .m)) (omega arith) in
-          absurd (omega arith) ]
+        elim (cases-lt (u a) (w .len a)) [
+          | inl h ↦ h
+          | inr h ↦
+              let none : held (with-wish k w) u a ≡ k .m = grind (arith, tells) in
+              let x : k .wish .pos a (k .m) < final k a = grind (arith, tells) in
+              let y = final-steady k law .within a in
+              let z = law .listed .back a (k .m) (omega arith) in
+              let m = law .listed .small a (k .wish .pos a (k .m)) (omega arith) in
+              absurd (omega arith)
+        ]
+
     dearer : (a : ℕ) → G a ≡ true → k .wish .pos a (w .entry a (u a)) < final k a
     dearer a g = let p = placed a g in grind (arith, tells)
+
     others : (p a : ℕ) → G a ≡ false → asked (k .wish) (final k) p a ≡ true → asked w u p a ≡ true
     others p a e h =
         let i = asked-parts (k .wish) (final k) p a h in
         let true-list : liar a ≡ false =
-          elim (cases-bool (liar a)) [ inl t ↦ absurd (false≢true (sym e ∙ lt-ltb _ _ (dear a (listed-below k law a _ (i .1)) t))) | inr f ↦ f ] in
+        elim (cases-bool (liar a)) [ inl t ↦ absurd (false≢true (sym e ∙ lt-ltb _ _ (dear a (listed-below k law a _ (i .1)) t))) | inr f ↦ f ] in
         let agrees = same a true-list in
         let at = agrees .pos p in
         let long = agrees .len in
-        elim (cases-lt (u a) (w .len a))
-        [ inl lt ↦
-          let was = agrees .pos (w .entry a (u a)) in
-          let there = listed .there a (u a) lt in
-          let le : final k a ≤ k .wish .pos a (w .entry a (u a)) = grind (arith, tells) in
-          asked-from w u p a (omega arith) (omega arith)
-        | inr ge ↦ asked-from w u p a (omega arith) (omega arith) ]
+        elim (cases-lt (u a) (w .len a)) [
+          | inl lt ↦
+              let was = agrees .pos (w .entry a (u a)) in
+              let there = listed .there a (u a) lt in
+              let le : final k a ≤ k .wish .pos a (w .entry a (u a)) = grind (arith, tells) in
+              asked-from w u p a (omega arith) (omega arith)
+          | inr ge ↦ asked-from w u p a (omega arith) (omega arith)
+        ]

@@ -25,18 +25,20 @@ one-more-under k law w b empty same u cl a ne =
   where
     t : ℕ → ℕ
     t = without b u
+
     other : (c p : ℕ) → k .wish .pos c p < k .wish .len c → (c ≢ b) × (k .wish .pos c p ≡ w .pos c p) × (k .wish .len c ≡ w .len c) × (t c ≡ u c)
     other c p l =
         let nb : c ≢ b = λ e. absurd (let e′ : k .wish .len c ≡ 0 = ap (k .wish .len) e ∙ empty in omega arith) in
         (nb, same c nb .pos p, same c nb .len, grind (arith, tells))
+
     closed : Closed k t
     closed p c h =
         let i = here-parts (k .wish) t p c h in
         let o = other c p (i .1) in
         law .way .substitutes p (asked (k .wish) t p) (asked w u p)
         (λ d j.
-          let x = asked-parts (k .wish) t p d j in
-          let y = other d p (x .1) in
-          asked-from w u p d (omega arith) (omega arith))
+        let x = asked-parts (k .wish) t p d j in
+        let y = other d p (x .1) in
+        asked-from w u p d (omega arith) (omega arith))
         c (here-asked (k .wish) t p c h)
         (cl p c (here-from w u p c (omega arith) (omega arith)))

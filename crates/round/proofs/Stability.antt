@@ -26,18 +26,20 @@ module _ (k : Market) (s : ℕ → ℕ) (p a : ℕ) where
   pub joined-asked : asked (k .wish) s p a ≡ true → Within (joined-by k s p a) (asked (k .wish) s p)
   unfolding joined-by Within
   joined-asked h c j =
-      elim (cases-eq c a)
-      [ inl e ↦ rw e h
-      | inr ne ↦ here-asked (k .wish) s p c (grind (arith, tells)) ]
+      elim (cases-eq c a) [
+        | inl e ↦ rw e h
+        | inr ne ↦ here-asked (k .wish) s p c (grind (arith, tells))
+      ]
 
 module _ (k : Market) (law : Lawful k) (s : ℕ → ℕ) where
   -- where whoever has passed is not kept, only those who ask now are
   pub kept-here : Justified k s → (p a : ℕ) → k .keeps p (asked (k .wish) s p) a ≡ true → here (k .wish) s p a ≡ true
   kept-here j p a h =
       let o = law .way .own p (asked (k .wish) s p) a h in
-      elim (asked-cases (k .wish) s p a o)
-      [ inl i ↦ i
-      | inr lt ↦ absurd (false≢true (sym (j p a (asked-parts (k .wish) s p a o .1) lt) ∙ h)) ]
+      elim (asked-cases (k .wish) s p a o) [
+        | inl i ↦ i
+        | inr lt ↦ absurd (false≢true (sym (j p a (asked-parts (k .wish) s p a o .1) lt) ∙ h))
+      ]
 
   pub stable-from-steady : Steady k s → Stable-at k s
   stable-from-steady st =
@@ -45,11 +47,11 @@ module _ (k : Market) (law : Lawful k) (s : ℕ → ℕ) where
         within = st .within;
         kept = λ p a h. law .way .substitutes p (here (k .wish) s p) (asked (k .wish) s p) (here-within (k .wish) s p) a h (st .closed p a h);
         no-pair = λ p a l lt.
-          irc (k .n) (k .keeps) (law .way) p (joined-by k s p a) (asked (k .wish) s p)
-          (joined-asked k s p a (asked-from (k .wish) s p a (omega arith) l))
-          (λ c h. here-joined k s p a c (kept-here (st .justified) p c h))
-          a (listed-below k law a _ l)
-          ∙ st .justified p a l lt;
+            irc (k .n) (k .keeps) (law .way) p (joined-by k s p a) (asked (k .wish) s p)
+            (joined-asked k s p a (asked-from (k .wish) s p a (omega arith) l))
+            (λ c h. here-joined k s p a c (kept-here (st .justified) p c h))
+            a (listed-below k law a _ l)
+            ∙ st .justified p a l lt;
       }
 
   pub steady-from-stable : Stable-at k s → Steady k s
@@ -60,6 +62,7 @@ module _ (k : Market) (law : Lawful k) (s : ℕ → ℕ) where
           refused-stays (k .n) (k .keeps) (law .way) p (joined-by k s p a) (asked (k .wish) s p)
           (joined-asked k s p a (asked-from (k .wish) s p a (omega arith) l))
           a (joined-self k s p a) (st .no-pair p a l lt)
+
       closed : Closed k s
       closed p a h =
           sym (irc (k .n) (k .keeps) (law .way) p (here (k .wish) s p) (asked (k .wish) s p) (here-within (k .wish) s p)
@@ -75,17 +78,18 @@ module _ (k : Market) (law : Lawful k) (s : ℕ → ℕ) where
 module _ (n m : ℕ) (w : Wish) (listed : Listed n m w) (s : ℕ → ℕ) where
   count-here : (a : ℕ) → count (λ p. here w s p a) m ≡ cond (ltb (s a) (w .len a)) 1 0
   count-here a =
-      elim (cases-lt (s a) (w .len a))
-      [ inl l ↦
-        let p = w .entry a (s a) in
-        let e = listed .there a (s a) l in
-        let one = count-one (λ p. here w s p a) m p (listed .small a (s a) l) (here-from w s p a e (omega arith))
-          (λ q _ h. let i = here-parts w s q a h in let b = listed .back a q (i .1) in cc) in
-        grind (arith, tells)
-      | inr l ↦
-        let none = count-none (λ p. here w s p a) m
-          (λ q _. elim (cases-bool (here w s q a)) [ inl h ↦ let i = here-parts w s q a h in absurd (omega arith) | inr e ↦ e ]) in
-        grind (arith, tells) ]
+      elim (cases-lt (s a) (w .len a)) [
+        | inl l ↦
+            let p = w .entry a (s a) in
+            let e = listed .there a (s a) l in
+            let one = count-one (λ p. here w s p a) m p (listed .small a (s a) l) (here-from w s p a e (omega arith))
+            (λ q _ h. let i = here-parts w s q a h in let b = listed .back a q (i .1) in cc) in
+            grind (arith, tells)
+        | inr l ↦
+            let none = count-none (λ p. here w s p a) m
+            (λ q _. elim (cases-bool (here w s q a)) [ inl h ↦ let i = here-parts w s q a h in absurd (omega arith) | inr e ↦ e ]) in
+            grind (arith, tells)
+      ]
 
   pub sum-here-of : (G : ℕ → Bool) → sum (λ p. count (λ a. here w s p a && G a) n) m ≡ count (λ a. ltb (s a) (w .len a) && G a) n
   sum-here-of G = sum-rows (λ p a. here w s p a && G a) (λ a. ltb (s a) (w .len a) && G a) m n (λ a _. rows a)
@@ -93,9 +97,10 @@ module _ (n m : ℕ) (w : Wish) (listed : Listed n m w) (s : ℕ → ℕ) where
       rows : (a : ℕ) → count (λ p. here w s p a && G a) m ≡ cond (ltb (s a) (w .len a) && G a) 1 0
       rows a =
           let one = count-here a in
-          elim (cases-bool (G a))
-          [ inl t ↦ let same = count-same (λ p. here w s p a && G a) (λ p. here w s p a) m (λ p _. grind arith) in grind arith
-          | inr e ↦ let none = count-none (λ p. here w s p a && G a) m (λ p _. grind arith) in grind arith ]
+          elim (cases-bool (G a)) [
+            | inl t ↦ let same = count-same (λ p. here w s p a && G a) (λ p. here w s p a) m (λ p _. grind arith) in grind arith
+            | inr e ↦ let none = count-none (λ p. here w s p a && G a) m (λ p _. grind arith) in grind arith
+          ]
 
 module _ (k : Market) (s : ℕ → ℕ) where
   pub placed-lt : (a : ℕ) → placed-at k s a ≡ true → s a < k .wish .len a

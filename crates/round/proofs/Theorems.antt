@@ -45,8 +45,9 @@ not-all-gain k w liar law law′ =
 
 pub no-gain : No-gain
 no-gain k w b law law′ lt same =
-    elim (cases-lt (k .wish .pos b (got (with-wish k w) b)) (final k b))
-    [ inr h ↦ h
-    | inl l ↦
-      absurd (not-all-gain k w (λ a. eqb a b) law law′ (λ a e. same a (eqb-false a b e)) b lt (eq-eqb b b refl)
-        (λ a _ e. let i : a ≡ b = eqb-true a b e in rw i l)) ]
+    elim (cases-lt (k .wish .pos b (got (with-wish k w) b)) (final k b)) [
+      | inr h ↦ h
+      | inl l ↦
+          absurd (not-all-gain k w (λ a. eqb a b) law law′ (λ a e. same a (eqb-false a b e)) b lt (eq-eqb b b refl)
+          (λ a _ e. let i : a ≡ b = eqb-true a b e in rw i l))
+    ]
