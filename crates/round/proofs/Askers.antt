@@ -1,13 +1,13 @@
 -- What asking, being kept and being turned down say as plain facts, and what the laws of a way of keeping give:
 -- a refusal stays, and whom nobody of them would miss can be left out.
-use mathlib.Core.Path.{_≡_, refl, sym, ap, _∙_}
-use mathlib.Core.Bool.{Bool, true, false, not, _&&_}
-use mathlib.Core.Logic.{_⊎_, inl, inr, _≢_}
+use mathlib.Core.Path.{_≡_, sym, _∙_}
+use mathlib.Core.Bool.{Bool, true, false}
+use mathlib.Core.Logic.{_⊎_, inl, inr}
 use Prim.Native.Nat.{ℕ, _+_, _≤_, _<_}
 use native.Mathlib.Omega.{arith}
 use Rattle.std.proofs.shelf.Ways.{tells, same-from-decides}
 use Rattle.std.proofs.shelf.Tests.{cases-bool, false≢true}
-use Rattle.round.specs.Market.{Wish, Market, Within, Way, Lawful, asked, here, turned, move, Moves, placed-at, held, joined-by, count}
+use Rattle.round.specs.Market.{Wish, Market, Within, Way, asked, here, turned, move}
 use Rattle.round.proofs.Count.{count-all}
 
 module _ (w : Wish) (s : ℕ → ℕ) (p a : ℕ) where

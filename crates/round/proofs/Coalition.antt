@@ -1,19 +1,19 @@
 -- No coalition gains: of those who send other lists than their true ones, not all get something dearer than at the end of the
 -- true lists.
-use mathlib.Core.Path.{_≡_, refl, sym, ap, subst, _∙_}
+use mathlib.Core.Path.{_≡_, refl, sym, subst, _∙_}
 use mathlib.Core.Bool.{Bool, true, false, cond, not, _&&_}
 use mathlib.Core.Logic.{_⊎_, inl, inr, _≢_}
 use Prim.Native.Nat.{ℕ, zero, suc, _+_, _≤_, _<_}
 use lib.Dec.{ltb, eqb}
 use native.Mathlib.Omega.{arith}
 use Rattle.std.proofs.shelf.Ways.{tells, same-from-decides}
-use Rattle.std.proofs.shelf.Tests.{cases-lt, cases-eq, cases-bool, false≢true, and-parts, and-from, and-left, lt-ltb}
-use Rattle.round.specs.Market.{Wish, Market, Within, Lawful, Listed, Closed, Steady, asked, here, final, run, entries, count, sum, turned, move, held}
+use Rattle.std.proofs.shelf.Tests.{cases-lt, cases-bool, false≢true, and-parts, and-from, and-left, lt-ltb}
+use Rattle.round.specs.Market.{Wish, Market, Within, Lawful, Listed, asked, here, final, run, entries, count, sum, turned, held}
 use Rattle.round.specs.Laws.{Agrees, with-wish}
 use Rattle.round.proofs.Count.{count-mono, count-same, count-all, count-less, count-split, sum-mono, sum-each, find}
-use Rattle.round.proofs.Askers.{asked-from, asked-parts, asked-more, asked-cases, here-from, here-parts, here-asked, move-stays, move-on, turned-parts}
-use Rattle.round.proofs.Ends.{listed-below, reached-least, reached-justified, Closed-under, reached-within, run-reached, moves-on, move-moves, final-reached, final-closed, final-steady}
-use Rattle.round.proofs.Stability.{kept-here, count-kept, sum-here-of}
+use Rattle.round.proofs.Askers.{asked-from, asked-parts, asked-more, here-from, here-parts, here-asked, turned-parts}
+use Rattle.round.proofs.Ends.{listed-below, reached-least, reached-justified, Closed-under, run-reached, move-moves, final-closed, final-steady}
+use Rattle.round.proofs.Stability.{kept-here, sum-here-of}
 
 -- Everybody of G is better off at u, under the lists w, than at the end of k; whoever is not of G has asked at u wherever it asks at
 -- the end of k.

@@ -1,17 +1,17 @@
 -- Stability in two words: a state is stable just where it is steady. So the end is stable and dearest for everybody, and all
 -- stable states place the same applicants and as many at every workshop.
-use mathlib.Core.Path.{_≡_, refl, sym, ap, _∙_}
-use mathlib.Core.Bool.{Bool, true, false, cond, _&&_}
+use mathlib.Core.Path.{_≡_, sym, _∙_}
+use mathlib.Core.Bool.{Bool, true, cond, _&&_}
 use lib.Dec.{ltb}
-use mathlib.Core.Logic.{_⊎_, inl, inr, _≢_}
-use Prim.Native.Nat.{ℕ, zero, suc, _+_, _≤_, _<_}
+use mathlib.Core.Logic.{inl, inr}
+use Prim.Native.Nat.{ℕ, _≤_, _<_}
 use native.Mathlib.Omega.{arith}
 use Rattle.std.proofs.shelf.Ways.{tells, same-from-decides}
 use Rattle.std.proofs.shelf.Tests.{cases-lt, cases-eq, cases-bool, false≢true}
-use Rattle.round.specs.Market.{Wish, Market, Within, Lawful, Listed, Closed, Justified, Steady, Stable-at, asked, here, joined-by, final, placed-at, count, sum}
+use Rattle.round.specs.Market.{Wish, Market, Within, Lawful, Listed, Closed, Justified, Steady, Stable-at, asked, here, joined-by, placed-at, count, sum}
 use Rattle.round.proofs.Count.{count-mono, count-same, count-all, count-none, count-one, sum-same, sum-each, sum-rows}
 use Rattle.round.proofs.Askers.{asked-from, asked-parts, asked-more, asked-cases, here-from, here-parts, here-asked, here-within, refused-stays, irc}
-use Rattle.round.proofs.Ends.{listed-below, reached-least, final-reached, final-steady}
+use Rattle.round.proofs.Ends.{listed-below}
 
 module _ (k : Market) (s : ℕ → ℕ) (p a : ℕ) where
   pub joined-self : joined-by k s p a a ≡ true
