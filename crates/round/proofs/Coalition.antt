@@ -6,14 +6,14 @@ use mathlib.Core.Logic.{_⊎_, inl, inr, _≢_}
 use Prim.Native.Nat.{ℕ, zero, suc, _+_, _≤_, _<_}
 use lib.Dec.{ltb, eqb}
 use native.Mathlib.Omega.{arith}
-use Rattle.std.proofs.shelf.Ways.{tells, same-from-decides}
+use Rattle.std.proofs.shelf.Ways.{tells}
 use Rattle.std.proofs.shelf.Tests.{cases-lt, cases-bool, false≢true, and-parts, and-from, and-left, lt-ltb}
 use Rattle.round.specs.Market.{Wish, Market, Within, Lawful, Listed, asked, here, final, run, entries, count, sum, turned, held}
 use Rattle.round.specs.Laws.{Agrees, with-wish}
 use Rattle.round.proofs.Count.{count-mono, count-same, count-all, count-less, count-split, sum-mono, sum-each, find}
-use Rattle.round.proofs.Askers.{asked-from, asked-parts, asked-more, here-from, here-parts, here-asked, turned-parts}
+use Rattle.round.proofs.Askers.{same-tests, asked-from, asked-parts, asked-more, here-from, here-parts, here-asked, turned-parts}
 use Rattle.round.proofs.Ends.{listed-below, reached-least, reached-justified, Closed-under, run-reached, move-moves, final-closed, final-steady}
-use Rattle.round.proofs.Stability.{kept-here, sum-here-of}
+use Rattle.round.proofs.Stability.{kept-here, count-at, sum-here-of}
 
 -- Everybody of G is better off at u, under the lists w, than at the end of k; whoever is not of G has asked at u wherever it asks at
 -- the end of k.
@@ -27,10 +27,17 @@ unfoldable mixed : (ℕ → Bool) → (ℕ → Bool) → (ℕ → Bool) → ℕ 
 mixed G X Q a = cond (G a) (X a) (Q a)
 
 module _ (k : Market) (law : Lawful k) (w : Wish) (listed : Listed (k .n) (k .m) w) (u : ℕ → ℕ) (cl : Closed-under k w u) (G : ℕ → Bool) (gain : Gain k w u G) where
+  -- how many of G win p at u, and how many have it at the end
+  abbrev won : ℕ → ℕ
+  won = count-at (k .n) w u G
+
+  abbrev ended : ℕ → ℕ
+  ended = count-at (k .n) (k .wish) (final k) G
+
   -- out of any Q in which all of G's winners of p are, p keeps as many of G as win it
   winners-kept : (p : ℕ) (Q : ℕ → Bool) → ((a : ℕ) → G a ≡ true → here w u p a ≡ true → Q a ≡ true) →
       ((a : ℕ) → G a ≡ false → Q a ≡ true → asked w u p a ≡ true) →
-      count (λ a. here w u p a && G a) (k .n) ≤ count (λ a. k .keeps p Q a && G a) (k .n)
+      won p ≤ count (λ a. k .keeps p Q a && G a) (k .n)
   unfolding mixed Within
   winners-kept p Q win other =
       let agg = law .way .aggregate p Z Q in-Q in
@@ -74,8 +81,8 @@ module _ (k : Market) (law : Lawful k) (w : Wish) (listed : Listed (k .n) (k .m)
   final-within = final-steady k law .within
 
   -- at each workshop as many of G as win it, or more, are there at the end
-  here-at-least : (p : ℕ) → count (λ a. here w u p a && G a) (k .n) ≤ count (λ a. here (k .wish) (final k) p a && G a) (k .n)
-  here-at-least p =
+  ended-at-least : (p : ℕ) → won p ≤ ended p
+  ended-at-least p =
       let f = final k in
       let kept = winners-kept p (asked (k .wish) f p)
       (λ a g h. let l = winner-passed p a g h in let i = final-within a in asked-from (k .wish) f p a (omega arith) (omega arith))
@@ -87,33 +94,36 @@ module _ (k : Market) (law : Lawful k) (w : Wish) (listed : Listed (k .n) (k .m)
       omega arith
 
   -- in all, as many of G win as there are
-  all-win : sum (λ p. count (λ a. here w u p a && G a) (k .n)) (k .m) ≡ count G (k .n)
+  all-win : sum won (k .m) ≡ count G (k .n)
   all-win =
       sum-here-of (k .n) (k .m) w listed u G
-      ∙ count-same _ _ (k .n) (λ a _. same-from-decides {P = G a ≡ true} _ _ (λ h. and-parts (ltb (u a) (w .len a)) (G a) h .1, λ g. let l = gain .placed a g in grind (arith, tells)) (λ h. h, λ h. h))
+      ∙ count-same _ _ (k .n) (λ a _. same-tests (λ h. and-parts (ltb (u a) (w .len a)) (G a) h .1) (λ g. let l = gain .placed a g in grind (arith, tells)))
 
-  all-there : sum (λ p. count (λ a. here (k .wish) (final k) p a && G a) (k .n)) (k .m) ≡ count (λ a. ltb (final k a) (k .wish .len a) && G a) (k .n)
-  all-there = sum-here-of (k .n) (k .m) (k .wish) (law .listed) (final k) G
+  -- placed at the end
+  abbrev placed-of-G : ℕ → Bool
+  placed-of-G a = ltb (final k a) (k .wish .len a) && G a
 
-  some-there : count (λ a. ltb (final k a) (k .wish .len a) && G a) (k .n) ≤ count G (k .n)
-  some-there = count-mono _ _ (k .n) (λ a _ h. and-parts (ltb (final k a) (k .wish .len a)) (G a) h .1)
+  all-end : sum ended (k .m) ≡ count placed-of-G (k .n)
+  all-end = sum-here-of (k .n) (k .m) (k .wish) (law .listed) (final k) G
+
+  placed-G : (a : ℕ) → a < k .n → placed-of-G a ≡ true → G a ≡ true
+  placed-G a _ h = and-parts (ltb (final k a) (k .wish .len a)) (G a) h .1
 
   -- so all of G are placed at the end too, and each workshop has as many of them as win it
   G-placed : (a : ℕ) → a < k .n → G a ≡ true → final k a < k .wish .len a
   G-placed a l g =
       let x = all-win in
-      let y = all-there in
-      let z = sum-mono (λ p. count (λ a. here w u p a && G a) (k .n)) (λ p. count (λ a. here (k .wish) (final k) p a && G a) (k .n)) (k .m) (λ p _. here-at-least p) in
-      let all = count-all (λ a. ltb (final k a) (k .wish .len a) && G a) G (k .n) (λ a _ h. and-parts (ltb (final k a) (k .wish .len a)) (G a) h .1) (omega arith) a l g in
+      let y = all-end in
+      let z = sum-mono won ended (k .m) (λ p _. ended-at-least p) in
+      let all = count-all placed-of-G G (k .n) placed-G (omega arith) a l g in
       grind (arith, tells)
 
-  here-same : (p : ℕ) → p < k .m → count (λ a. here w u p a && G a) (k .n) ≡ count (λ a. here (k .wish) (final k) p a && G a) (k .n)
-  here-same p l =
+  ended-same : (p : ℕ) → p < k .m → won p ≡ ended p
+  ended-same p l =
       let x = all-win in
-      let y = all-there in
-      let z = some-there in
-      sum-each (λ p. count (λ a. here w u p a && G a) (k .n)) (λ p. count (λ a. here (k .wish) (final k) p a && G a) (k .n)) (k .m)
-      (λ p _. here-at-least p) (omega arith) p l
+      let y = all-end in
+      let z = count-mono placed-of-G G (k .n) placed-G in
+      sum-each won ended (k .m) (λ p _. ended-at-least p) (omega arith) p l
 
   -- there is no step after which all of G have come to their end, but one of them not before it: the workshop where that one ends
   -- would have kept, before the step, as many of G as win it, who would all be there at the end beside it
@@ -121,7 +131,7 @@ module _ (k : Market) (law : Lawful k) (w : Wish) (listed : Listed (k .n) (k .m)
   unfolding run Within
   no-last-step t settled a l g ne =
       let enough = winners-kept p Q win (λ c e q. gain .others p c e (asked-more (k .wish) s f p before c q)) in
-      let same = here-same p (law .listed .small a (f a) placed) in
+      let same = ended-same p (law .listed .small a (f a) placed) in
       let fewer = count-less (λ c. k .keeps p Q c && G c) (λ c. here (k .wish) f p c && G c) (k .n) (λ c _. stays c) a l
       (and-from (here (k .wish) f p a) (G a) (here-from (k .wish) f p a at-end (omega (arith, at-end, placed))) g) not-kept in
       omega arith

@@ -77,7 +77,7 @@ module _ (k : Market) (law : Lawful k) where
             elim (cases-eq (s a) (t a)) [
               | inr ne ↦ omega arith
               | inl same ↦
-                  let out = refused-stays (k .n) (k .keeps) (law .way) p (asked (k .wish) s p) (asked (k .wish) t p) (asked-more (k .wish) s t p ih) a
+                  let out = refused-stays (law .way) p (asked (k .wish) s p) (asked (k .wish) t p) (asked-more (k .wish) s t p ih) a
                   (asked-from (k .wish) s p a (omega arith) (omega arith)) (i .1) in
                   absurd (false≢true (sym out ∙ cl p a (here-from (k .wish) t p a (at ∙ same) (omega arith))))
             ]
@@ -101,7 +101,7 @@ module _ (k : Market) (law : Lawful k) where
     where
       stays : k .wish .pos a p ≤ s a → k .keeps p (asked (k .wish) s p) a ≡ false → k .keeps p (asked (k .wish) t p) a ≡ false
       stays h =
-          refused-stays (k .n) (k .keeps) (law .way) p (asked (k .wish) s p) (asked (k .wish) t p) (asked-more (k .wish) s t p (moves-on k s t mv)) a
+          refused-stays (law .way) p (asked (k .wish) s p) (asked (k .wish) t p) (asked-more (k .wish) s t p (moves-on k s t mv)) a
           (asked-from (k .wish) s p a h l)
 
   -- where nobody is turned down nothing moves any more

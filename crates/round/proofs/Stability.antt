@@ -6,11 +6,11 @@ use lib.Dec.{ltb}
 use mathlib.Core.Logic.{inl, inr}
 use Prim.Native.Nat.{ℕ, _≤_, _<_}
 use native.Mathlib.Omega.{arith}
-use Rattle.std.proofs.shelf.Ways.{tells, same-from-decides}
+use Rattle.std.proofs.shelf.Ways.{tells}
 use Rattle.std.proofs.shelf.Tests.{cases-lt, cases-eq, cases-bool, false≢true}
 use Rattle.round.specs.Market.{Wish, Market, Within, Lawful, Listed, Closed, Justified, Steady, Stable-at, asked, here, joined-by, placed-at, count, sum}
 use Rattle.round.proofs.Count.{count-mono, count-same, count-all, count-none, count-one, sum-same, sum-each, sum-rows}
-use Rattle.round.proofs.Askers.{asked-from, asked-parts, asked-more, asked-cases, here-from, here-parts, here-asked, here-within, refused-stays, irc}
+use Rattle.round.proofs.Askers.{same-tests, asked-from, asked-parts, asked-more, asked-cases, here-from, here-parts, here-asked, here-within, refused-stays, irc}
 use Rattle.round.proofs.Ends.{listed-below}
 
 module _ (k : Market) (s : ℕ → ℕ) (p a : ℕ) where
@@ -47,7 +47,7 @@ module _ (k : Market) (law : Lawful k) (s : ℕ → ℕ) where
         within = st .within;
         kept = λ p a h. law .way .substitutes p (here (k .wish) s p) (asked (k .wish) s p) (here-within (k .wish) s p) a h (st .closed p a h);
         no-pair = λ p a l lt.
-            irc (k .n) (k .keeps) (law .way) p (joined-by k s p a) (asked (k .wish) s p)
+            irc (law .way) p (joined-by k s p a) (asked (k .wish) s p)
             (joined-asked k s p a (asked-from (k .wish) s p a (omega arith) l))
             (λ c h. here-joined k s p a c (kept-here (st .justified) p c h))
             a (listed-below k law a _ l)
@@ -59,20 +59,24 @@ module _ (k : Market) (law : Lawful k) (s : ℕ → ℕ) where
     where
       justified : Justified k s
       justified p a l lt =
-          refused-stays (k .n) (k .keeps) (law .way) p (joined-by k s p a) (asked (k .wish) s p)
+          refused-stays (law .way) p (joined-by k s p a) (asked (k .wish) s p)
           (joined-asked k s p a (asked-from (k .wish) s p a (omega arith) l))
           a (joined-self k s p a) (st .no-pair p a l lt)
 
       closed : Closed k s
       closed p a h =
-          sym (irc (k .n) (k .keeps) (law .way) p (here (k .wish) s p) (asked (k .wish) s p) (here-within (k .wish) s p)
+          sym (irc (law .way) p (here (k .wish) s p) (asked (k .wish) s p) (here-within (k .wish) s p)
           (kept-here justified p) a (listed-below k law a _ (here-parts (k .wish) s p a h .1)))
           ∙ st .kept p a h
 
   -- at a steady state a workshop has as many as it keeps
   pub count-kept : Steady k s → (p n : ℕ) → count (k .keeps p (asked (k .wish) s p)) n ≡ count (here (k .wish) s p) n
   count-kept st p n =
-      count-same _ _ n (λ a _. same-from-decides {P = here (k .wish) s p a ≡ true} _ _ (kept-here (st .justified) p a, st .closed p a) (λ h. h, λ h. h))
+      count-same _ _ n (λ a _. same-tests (kept-here (st .justified) p a) (st .closed p a))
+
+-- how many of G are at p
+abbrev pub count-at : ℕ → Wish → (ℕ → ℕ) → (ℕ → Bool) → ℕ → ℕ
+count-at n w s G p = count (λ a. here w s p a && G a) n
 
 -- over all workshops, as many of a set are there as of it are placed
 module _ (n m : ℕ) (w : Wish) (listed : Listed n m w) (s : ℕ → ℕ) where
@@ -91,7 +95,7 @@ module _ (n m : ℕ) (w : Wish) (listed : Listed n m w) (s : ℕ → ℕ) where
             grind (arith, tells)
       ]
 
-  pub sum-here-of : (G : ℕ → Bool) → sum (λ p. count (λ a. here w s p a && G a) n) m ≡ count (λ a. ltb (s a) (w .len a) && G a) n
+  pub sum-here-of : (G : ℕ → Bool) → sum (count-at n w s G) m ≡ count (λ a. ltb (s a) (w .len a) && G a) n
   sum-here-of G = sum-rows (λ p a. here w s p a && G a) (λ a. ltb (s a) (w .len a) && G a) m n (λ a _. rows a)
     where
       rows : (a : ℕ) → count (λ p. here w s p a && G a) m ≡ cond (ltb (s a) (w .len a) && G a) 1 0
@@ -142,4 +146,4 @@ module _ (k : Market) (law : Lawful k) (t s : ℕ → ℕ) (le : (a : ℕ) → t
         let es = sum-here k s law in
         let same = sum-same (λ p. count (here (k .wish) s p) (k .n)) (λ p. count (here (k .wish) t p) (k .n)) (k .m) count-here-same in
         let all = count-all (placed-at k s) (placed-at k t) (k .n) (λ a _. placed-more a) (omega arith) a in
-        same-from-decides {P = placed-at k t a ≡ true} _ _ (placed-more a, λ h. all (listed-below k law a _ (placed-lt k t a h)) h) (λ h. h, λ h. h)
+        same-tests (placed-more a) (λ h. all (listed-below k law a _ (placed-lt k t a h)) h)
