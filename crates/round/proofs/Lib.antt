@@ -4,3 +4,4 @@ pub mod Theorems
 -- and for rounds: the way of keeping by points, the given step-by-step definitions, the given statements
 pub mod Worth
 pub mod Best
+pub mod Ranks
