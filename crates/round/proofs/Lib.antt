@@ -5,3 +5,4 @@ pub mod Theorems
 pub mod Worth
 pub mod Best
 pub mod Ranks
+pub mod Ending
