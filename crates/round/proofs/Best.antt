@@ -1,11 +1,11 @@
 -- Keeping the best by points is a lawful way of keeping, where no two have the same worth at a workshop.
 -- In order: whom it keeps, in words; no more than the places; as many as it can; the laws.
 use mathlib.Core.Path.{_≡_, refl, sym, _∙_}
-use mathlib.Core.Bool.{Bool, true, false, not, _&&_}
+use mathlib.Core.Bool.{Bool, true, false, not, _&&_, _||_}
 use mathlib.Core.Logic.{_⊎_, inl, inr, _≢_}
 use Prim.Native.Nat.{ℕ, _+_, _≤_, _<_}
 use native.Mathlib.Omega.{arith}
-use lib.Dec.{ltb}
+use lib.Dec.{eqb, leb, ltb}
 use Rattle.std.proofs.shelf.Ways.{tells}
 use Rattle.std.proofs.shelf.Tests.{cases-lt}
 use Rattle.round.specs.Market.{Way, Within, count}
@@ -27,6 +27,11 @@ module _ (places : ℕ → ℕ) (worth : ℕ → ℕ → ℕ) (n : ℕ) where
   pub crowd-from : (p : ℕ) (X : ℕ → Bool) (a : ℕ) → X a ≡ true → 0 < worth p a → keeps-best places worth n p X a ≡ false → places p ≤ ahead-of worth n p X a
   unfolding keeps-best
   crowd-from p X a x w l = grind (arith, tells)
+
+  -- of those who asked just these are not kept
+  pub not-kept : (p : ℕ) (X : ℕ → Bool) (a : ℕ) → X a ≡ true → not (keeps-best places worth n p X a) ≡ (eqb (worth p a) 0 || leb (places p) (ahead-of worth n p X a))
+  unfolding keeps-best
+  not-kept p X a x = grind (arith, tells)
 
   -- more rivals, more ahead
   pub ahead-mono : (p : ℕ) (X Y : ℕ → Bool) → Within X Y → (a : ℕ) → ahead-of worth n p X a ≤ ahead-of worth n p Y a

@@ -6,3 +6,6 @@ pub mod Worth
 pub mod Best
 pub mod Ranks
 pub mod Ending
+pub mod Askers
+pub mod Later
+pub mod Bridge
