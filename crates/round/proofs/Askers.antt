@@ -36,6 +36,10 @@ module _ (w : Wish) (s : ℕ → ℕ) (p a : ℕ) where
   unfolding asked here
   asked-cases h = grind (arith, tells)
 
+pub here-within : (w : Wish) (s : ℕ → ℕ) (p : ℕ) → Within (here w s p) (asked w s p)
+unfolding Within
+here-within w s p a = here-asked w s p a
+
 -- further on, more have asked
 pub asked-more : (w : Wish) (s t : ℕ → ℕ) (p : ℕ) → ((a : ℕ) → s a ≤ t a) → Within (asked w s p) (asked w t p)
 unfolding Within

@@ -20,7 +20,7 @@ use Rattle.round.proofs.Askers.{asked-parts, asked-cases, here-from, here-part
 use Rattle.round.proofs.Best.{not-kept}
 use Rattle.round.proofs.Ranks.{listed-by-rank, market-lawful}
 use Rattle.round.proofs.Ending.{length-steps, getD-steps-none, getD-steps-more}
-use Rattle.round.proofs.Later.{run-reached, reached-justified}
+use Rattle.round.proofs.Ends.{run-reached, reached-justified}
 
 -- a list of positions as a state
 abbrev pub state-of : List ℕ → ℕ → ℕ
