@@ -9,17 +9,18 @@ use native.Mathlib.Omega.{arith}
 use lib.ListN.{length, getD, List·getD-eq-default}
 use lib.Dec.{eqb, leb, ltb}
 use Rattle.std.proofs.shelf.Ways.{tells, same-from-decides, decides-eqb}
-use Rattle.std.proofs.shelf.Tests.{lt-ltb, le-ltb, and-left, cond-true, cond-false, cases-lt, cases-bool, false≢true}
+use Rattle.std.proofs.shelf.Tests.{lt-ltb, le-ltb, and-left, cond-true, cond-false, cases-lt}
 use Rattle.round.specs.Places.{Round, point, nowhere, ahead, refused, step, steps, total, result, pick}
 use Rattle.round.specs.Places.{asked as asks-now}
 use Rattle.round.specs.Promise.{Proper, rank}
 use Rattle.round.specs.Market.{Market, Lawful, Listed, Within, Reached, Justified, asked, here, turned, move, run, final, entries, asks, asks-at, got, held, count, sum}
 use Rattle.round.specs.ByPoints.{wish-of, market-of, keeps-best, ahead-of}
 use Rattle.round.specs.Office.{asks-of, asks-from}
-use Rattle.round.proofs.Askers.{asked-parts, asked-cases, here-from, here-parts, here-asked, turned-parts, irc}
+use Rattle.round.proofs.Askers.{here-from, here-parts, here-within, turned-parts, irc}
 use Rattle.round.proofs.Best.{not-kept}
 use Rattle.round.proofs.Ranks.{listed-by-rank, market-lawful}
 use Rattle.round.proofs.Ending.{length-steps, getD-steps-none, getD-steps-more}
+use Rattle.round.proofs.Stability.{kept-here}
 use Rattle.round.proofs.Ends.{run-reached, reached-justified}
 
 -- a list of positions as a state
@@ -66,14 +67,9 @@ module _ (r : Round) (ok : Proper r) where
 
   -- out of those who ask p now the same are kept as out of all who have asked, where all who passed p were rightly turned down
   pub keeps-here : (s : ℕ → ℕ) → Justified (market-of r) s → (p a : ℕ) → a < length (r .lists) → market-of r .keeps p (here (wish-of r) s p) a ≡ market-of r .keeps p (asked (wish-of r) s p) a
-  unfolding market-of Within
+  unfolding market-of
   keeps-here s just p =
-      irc _ _ (market-lawful r ok .way) p _ _ (λ b. here-asked (wish-of r) s p b)
-      (λ b t.
-      let x = market-lawful r ok .way .own p _ b t in
-      let i = asked-parts (wish-of r) s p b x in
-      elim (asked-cases (wish-of r) s p b x)
-      [ inl y ↦ y | inr passed ↦ absurd (false≢true (sym (just p b (i .1) passed) ∙ t)) ])
+      irc _ _ (market-lawful r ok .way) p _ _ (here-within (wish-of r) s p) (kept-here (market-of r) (market-lawful r ok) s just p)
 
   -- the given `refused` says who is turned down
   pub refused-turned : (at : List ℕ) → Justified (market-of r) (state-of at) → (a : ℕ) → a < length (r .lists) → refused r at a ≡ turned (market-of r) (state-of at) a

@@ -10,3 +10,4 @@ pub mod Best
 pub mod Ranks
 pub mod Ending
 pub mod Bridge
+pub mod Same

@@ -76,3 +76,13 @@ listed-by-rank r ok =
 pub market-lawful : (r : Round) → Proper r → Lawful (market-of r)
 unfolding market-of
 market-lawful r ok = record { way = way-by-points _ _ _ (ok .points); listed = listed-by-rank r ok }
+
+-- only applicants list anything, and only workshops are listed
+pub below-from-rank : (r : Round) → Proper r → (a p : ℕ) → rank (getD (r .lists) a []) p < length (getD (r .lists) a []) → (a < length (r .lists)) × (p < length (r .places))
+unfolding wish-of
+below-from-rank r ok a p l =
+    let listed = listed-by-rank r ok in
+    let small = listed .small a _ l in
+    let e = listed .back a p l in
+    let none = listed .outside a in
+    (elim (cases-lt a (length (r .lists))) [ inl t ↦ t | inr t ↦ let z = none t in absurd (omega arith) ], omega arith)

@@ -10,6 +10,10 @@ use Rattle.round.specs.Places.{Round, asked, refused, steps, total, result}
 use Rattle.round.specs.Promise.{Proper, rank}
 use Rattle.round.specs.Market.{sum}
 
+-- the position of what an assignment gives, in each applicant's list
+unfoldable pub position-of : Round → (ℕ → ℕ) → ℕ → ℕ
+position-of r m a = rank (getD (r .lists) a []) (m a)
+
 -- the number of asks when everybody has come to its position: the entries that were asked, over all lists
 unfoldable pub asks-from : Round → List ℕ → ℕ
 asks-from r at = sum (λ a. min (getD at a 0 + 1) (length (getD (r .lists) a []))) (length (r .lists))
