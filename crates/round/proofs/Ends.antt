@@ -49,13 +49,14 @@ module _ (k : Market) (law : Lawful k) where
 
   pub quiet-from-closed : (s : ℕ → ℕ) → Closed k s → Quiet k s
   quiet-from-closed s cl a =
-      elim (cases-bool (turned k s a))
-      [ inl t ↦
-        let i = turned-parts k s a t in
-        let e = law .listed .there a (s a) (i .0) in
-        let h = cl (k .wish .entry a (s a)) a (here-from (k .wish) s (k .wish .entry a (s a)) a e (omega arith)) in
-        absurd (false≢true (sym (i .1) ∙ h))
-      | inr e ↦ e ]
+      elim (cases-bool (turned k s a)) [
+        | inl t ↦
+            let i = turned-parts k s a t in
+            let e = law .listed .there a (s a) (i .0) in
+            let h = cl (k .wish .entry a (s a)) a (here-from (k .wish) s (k .wish .entry a (s a)) a e (omega arith)) in
+            absurd (false≢true (sym (i .1) ∙ h))
+        | inr e ↦ e
+      ]
 
   -- every reached state lies at or before every closed one
   pub reached-least : (s t : ℕ → ℕ) → Reached k s → Closed k t → (a : ℕ) → s a ≤ t a
@@ -63,32 +64,36 @@ module _ (k : Market) (law : Lawful k) where
   reached-least _ t (then s u r mv) cl a =
       let ih = λ (b : ℕ). reached-least s t r cl b in
       let l = ih a in
-      elim (mv a)
-      [ inl e ↦ omega arith
-      | inr e ↦
-        let p = k .wish .entry a (s a) in
-        let i = turned-parts k s a (e .0) in
-        let at = law .listed .there a (s a) (i .0) in
-        elim (cases-eq (s a) (t a))
-        [ inr ne ↦ omega arith
-        | inl same ↦
-          let out = refused-stays (k .n) (k .keeps) (law .way) p (asked (k .wish) s p) (asked (k .wish) t p) (asked-more (k .wish) s t p ih) a
-            (asked-from (k .wish) s p a (omega arith) (omega arith)) (i .1) in
-          absurd (false≢true (sym out ∙ cl p a (here-from (k .wish) t p a (at ∙ same) (omega arith)))) ] ]
+      elim (mv a) [
+        | inl e ↦ omega arith
+        | inr e ↦
+            let p = k .wish .entry a (s a) in
+            let i = turned-parts k s a (e .0) in
+            let at = law .listed .there a (s a) (i .0) in
+            elim (cases-eq (s a) (t a)) [
+              | inr ne ↦ omega arith
+              | inl same ↦
+                  let out = refused-stays (k .n) (k .keeps) (law .way) p (asked (k .wish) s p) (asked (k .wish) t p) (asked-more (k .wish) s t p ih) a
+                  (asked-from (k .wish) s p a (omega arith) (omega arith)) (i .1) in
+                  absurd (false≢true (sym out ∙ cl p a (here-from (k .wish) t p a (at ∙ same) (omega arith))))
+            ]
+      ]
 
   -- whoever has passed a workshop was turned down there, and still is
   pub reached-justified : (s : ℕ → ℕ) → Reached k s → Justified k s
   reached-justified _ (start s h) p a l le = let i = h a in absurd (omega arith)
   reached-justified _ (then s t r mv) p a l le =
-      elim (cases-lt (k .wish .pos a p) (s a))
-      [ inl lt ↦ stays (omega arith) (reached-justified s r p a l lt)
-      | inr ge ↦
-        elim (mv a)
-        [ inl e ↦ absurd (omega arith)
-        | inr e ↦
-          let same : k .wish .pos a p ≡ s a = omega arith in
-          let e′ : k .wish .entry a (s a) ≡ p = cc (law .listed .back a p l) in
-          stays (omega arith) (subst (λ (x : ℕ). k .keeps x (asked (k .wish) s x) a ≡ false) e′ (turned-parts k s a (e .0) .1)) ] ]
+      elim (cases-lt (k .wish .pos a p) (s a)) [
+        | inl lt ↦ stays (omega arith) (reached-justified s r p a l lt)
+        | inr ge ↦
+            elim (mv a) [
+              | inl e ↦ absurd (omega arith)
+              | inr e ↦
+                  let same : k .wish .pos a p ≡ s a = omega arith in
+                  let e′ : k .wish .entry a (s a) ≡ p = cc (law .listed .back a p l) in
+                  stays (omega arith) (subst (λ (x : ℕ). k .keeps x (asked (k .wish) s x) a ≡ false) e′ (turned-parts k s a (e .0) .1))
+            ]
+      ]
     where
       stays : k .wish .pos a p ≤ s a → k .keeps p (asked (k .wish) s p) a ≡ false → k .keeps p (asked (k .wish) t p) a ≡ false
       stays h =
@@ -101,25 +106,28 @@ module _ (k : Market) (law : Lawful k) where
 
   quiet-or-turned : (s : ℕ → ℕ) → ((a : ℕ) × (a < k .n) × (turned k s a ≡ true)) ⊎ Quiet k s
   quiet-or-turned s =
-      elim (find (turned k s) (k .n))
-      [ inl h ↦ inl h
-      | inr none ↦
-        inr (λ a. elim (cases-bool (turned k s a)) [ inl t ↦ none a (listed-below a (s a) (turned-parts k s a t .0)) | inr e ↦ e ]) ]
+      elim (find (turned k s) (k .n)) [
+        | inl h ↦ inl h
+        | inr none ↦
+            inr (λ a. elim (cases-bool (turned k s a)) [ inl t ↦ none a (listed-below a (s a) (turned-parts k s a t .0)) | inr e ↦ e ])
+      ]
 
   -- at each step nobody is turned down any more, or somebody has moved on
   run-grows : (t : ℕ) → Quiet k (run k t) ⊎ (t ≤ sum (run k t) (k .n))
   unfolding run
   run-grows zero = inr (omega arith)
   run-grows (suc t) =
-      elim (run-grows t)
-      [ inl q ↦ inl (quiet-stays (run k t) q)
-      | inr le ↦
-        elim (quiet-or-turned (run k t))
-        [ inr q ↦ inl (quiet-stays (run k t) q)
-        | inl h ↦
-          let on = move-on k (run k t) (h .0) (h .2) in
-          let more = sum-less (run k t) (move k (run k t)) (k .n) (λ a _. moves-on k (run k t) (move k (run k t)) (move-moves k (run k t)) a) (h .0) (h .1) (omega arith) in
-          inr (omega arith) ] ]
+      elim (run-grows t) [
+        | inl q ↦ inl (quiet-stays (run k t) q)
+        | inr le ↦
+            elim (quiet-or-turned (run k t)) [
+              | inr q ↦ inl (quiet-stays (run k t) q)
+              | inl h ↦
+                  let on = move-on k (run k t) (h .0) (h .2) in
+                  let more = sum-less (run k t) (move k (run k t)) (k .n) (λ a _. moves-on k (run k t) (move k (run k t)) (move-moves k (run k t)) a) (h .0) (h .1) (omega arith) in
+                  inr (omega arith)
+            ]
+      ]
 
   pub final-reached : Reached k (final k)
   unfolding final
@@ -128,14 +136,16 @@ module _ (k : Market) (law : Lawful k) where
   pub final-quiet : Quiet k (final k)
   unfolding final entries
   final-quiet =
-      elim (run-grows (entries k))
-      [ inl q ↦ q
-      | inr le ↦
-        elim (quiet-or-turned (final k))
-        [ inr q ↦ q
-        | inl h ↦
-          let more = sum-less (final k) (k .wish .len) (k .n) (λ a _. reached-within k (final k) final-reached a) (h .0) (h .1) (turned-parts k (final k) (h .0) (h .2) .0) in
-          absurd (omega arith) ] ]
+      elim (run-grows (entries k)) [
+        | inl q ↦ q
+        | inr le ↦
+            elim (quiet-or-turned (final k)) [
+              | inr q ↦ q
+              | inl h ↦
+                  let more = sum-less (final k) (k .wish .len) (k .n) (λ a _. reached-within k (final k) final-reached a) (h .0) (h .1) (turned-parts k (final k) (h .0) (h .2) .0) in
+                  absurd (omega arith)
+            ]
+      ]
 
   pub final-closed : Closed k (final k)
   final-closed = closed-from-quiet (final k) final-quiet

@@ -46,14 +46,6 @@ pub entry-small : (m : ℕ) (l : List ℕ) (j d : ℕ) → Distinct m l → j < 
 unfolding Distinct
 entry-small m l j d u h = let s = u .1 j h in let e = getD-default l j d m h in omega arith
 
--- what is no programme stands in no list
-pub rank-nowhere : (m : ℕ) (l : List ℕ) (p : ℕ) → Distinct m l → m ≤ p → rank l p ≡ length l
-rank-nowhere m l p u h =
-    elim (cases-lt (rank l p) (length l)) [
-      | inl t ↦ let e = getD-rank l p 0 t in let s = entry-small m l (rank l p) 0 u t in absurd (omega arith)
-      | inr t ↦ let b = rank-bound l p in omega arith
-    ]
-
 -- the lists of a proper round
 pub listed-by-rank : (r : Round) → Proper r → Listed (length (r .lists)) (length (r .places)) (wish-of r)
 unfolding wish-of
@@ -86,3 +78,10 @@ below-from-rank r ok a p l =
     let e = listed .back a p l in
     let none = listed .outside a in
     (elim (cases-lt a (length (r .lists))) [ inl t ↦ t | inr t ↦ let z = none t in absurd (omega arith) ], omega arith)
+
+-- what is no workshop stands in no list
+pub rank-nowhere : (r : Round) → Proper r → (a p : ℕ) → length (r .places) ≤ p → rank (getD (r .lists) a []) p ≡ length (getD (r .lists) a [])
+rank-nowhere r ok a p h =
+    let bound = rank-bound (getD (r .lists) a []) p in
+    elim (cases-lt (rank (getD (r .lists) a []) p) (length (getD (r .lists) a [])))
+    [ inl t ↦ let b = below-from-rank r ok a p t in absurd (omega arith) | inr t ↦ omega arith ]

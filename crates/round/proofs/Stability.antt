@@ -25,18 +25,20 @@ module _ (k : Market) (s : ℕ → ℕ) (p a : ℕ) where
   pub joined-asked : asked (k .wish) s p a ≡ true → Within (joined-by k s p a) (asked (k .wish) s p)
   unfolding joined-by Within
   joined-asked h c j =
-      elim (cases-eq c a)
-      [ inl e ↦ rw e h
-      | inr ne ↦ here-asked (k .wish) s p c (grind (arith, tells)) ]
+      elim (cases-eq c a) [
+        | inl e ↦ rw e h
+        | inr ne ↦ here-asked (k .wish) s p c (grind (arith, tells))
+      ]
 
 module _ (k : Market) (law : Lawful k) (s : ℕ → ℕ) where
   -- where whoever has passed is not kept, only those who ask now are
   pub kept-here : Justified k s → (p a : ℕ) → k .keeps p (asked (k .wish) s p) a ≡ true → here (k .wish) s p a ≡ true
   kept-here j p a h =
       let o = law .way .own p (asked (k .wish) s p) a h in
-      elim (asked-cases (k .wish) s p a o)
-      [ inl i ↦ i
-      | inr lt ↦ absurd (false≢true (sym (j p a (asked-parts (k .wish) s p a o .1) lt) ∙ h)) ]
+      elim (asked-cases (k .wish) s p a o) [
+        | inl i ↦ i
+        | inr lt ↦ absurd (false≢true (sym (j p a (asked-parts (k .wish) s p a o .1) lt) ∙ h))
+      ]
 
   pub stable-from-steady : Steady k s → Stable-at k s
   stable-from-steady st =
@@ -44,11 +46,11 @@ module _ (k : Market) (law : Lawful k) (s : ℕ → ℕ) where
         within = st .within;
         kept = λ p a h. law .way .substitutes p (here (k .wish) s p) (asked (k .wish) s p) (here-within (k .wish) s p) a h (st .closed p a h);
         no-pair = λ p a l lt.
-          irc (k .n) (k .keeps) (law .way) p (joined-by k s p a) (asked (k .wish) s p)
-          (joined-asked k s p a (asked-from (k .wish) s p a (omega arith) l))
-          (λ c h. here-joined k s p a c (kept-here (st .justified) p c h))
-          a (listed-below k law a _ l)
-          ∙ st .justified p a l lt;
+            irc (k .n) (k .keeps) (law .way) p (joined-by k s p a) (asked (k .wish) s p)
+            (joined-asked k s p a (asked-from (k .wish) s p a (omega arith) l))
+            (λ c h. here-joined k s p a c (kept-here (st .justified) p c h))
+            a (listed-below k law a _ l)
+            ∙ st .justified p a l lt;
       }
 
   pub steady-from-stable : Stable-at k s → Steady k s
@@ -59,6 +61,7 @@ module _ (k : Market) (law : Lawful k) (s : ℕ → ℕ) where
           refused-stays (k .n) (k .keeps) (law .way) p (joined-by k s p a) (asked (k .wish) s p)
           (joined-asked k s p a (asked-from (k .wish) s p a (omega arith) l))
           a (joined-self k s p a) (st .no-pair p a l lt)
+
       closed : Closed k s
       closed p a h =
           sym (irc (k .n) (k .keeps) (law .way) p (here (k .wish) s p) (asked (k .wish) s p) (here-within (k .wish) s p)
@@ -81,19 +84,20 @@ module _ (k : Market) (law : Lawful k) (s : ℕ → ℕ) where
   -- whoever is placed is placed at one workshop, whoever is not at none
   pub count-here : (a : ℕ) → count (λ p. here (k .wish) s p a) (k .m) ≡ cond (placed-at k s a) 1 0
   count-here a =
-      elim (cases-bool (placed-at k s a))
-      [ inl t ↦
-        let l = placed-lt a t in
-        let p = k .wish .entry a (s a) in
-        let e = law .listed .there a (s a) l in
-        count-one (λ p. here (k .wish) s p a) (k .m) p (law .listed .small a (s a) l) (here-from (k .wish) s p a e (omega arith))
-        (λ q _ h. let i = here-parts (k .wish) s q a h in let b = law .listed .back a q (i .1) in cc)
-        ∙ sym (rw t)
-      | inr f ↦
-        count-none (λ p. here (k .wish) s p a) (k .m)
-        (λ q _. elim (cases-bool (here (k .wish) s q a))
-        [ inl h ↦ let i = here-parts (k .wish) s q a h in absurd (false≢true (sym f ∙ lt-placed a (omega arith))) | inr e ↦ e ])
-        ∙ sym (rw f) ]
+      elim (cases-bool (placed-at k s a)) [
+        | inl t ↦
+            let l = placed-lt a t in
+            let p = k .wish .entry a (s a) in
+            let e = law .listed .there a (s a) l in
+            count-one (λ p. here (k .wish) s p a) (k .m) p (law .listed .small a (s a) l) (here-from (k .wish) s p a e (omega arith))
+            (λ q _ h. let i = here-parts (k .wish) s q a h in let b = law .listed .back a q (i .1) in cc)
+            ∙ sym (rw t)
+        | inr f ↦
+            count-none (λ p. here (k .wish) s p a) (k .m)
+            (λ q _. elim (cases-bool (here (k .wish) s q a))
+            [ inl h ↦ let i = here-parts (k .wish) s q a h in absurd (false≢true (sym f ∙ lt-placed a (omega arith))) | inr e ↦ e ])
+            ∙ sym (rw f)
+      ]
 
   -- over all workshops, as many are there as are placed
   pub sum-here : sum (λ p. count (here (k .wish) s p) (k .n)) (k .m) ≡ count (placed-at k s) (k .n)
