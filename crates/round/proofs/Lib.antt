@@ -11,3 +11,5 @@ pub mod Ranks
 pub mod Ending
 pub mod Bridge
 pub mod Same
+pub mod Promised
+pub mod Orders
