@@ -13,3 +13,4 @@ pub mod Bridge
 pub mod Same
 pub mod Promised
 pub mod Orders
+pub mod Cuts

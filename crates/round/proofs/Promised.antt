@@ -26,10 +26,16 @@ unfolding got position-of
 rank-result r ok a =
     rw (result-got r ok a) (position-held r ok (final (market-of r)) (end-stable (market-of r) (market-lawful r ok) .within) a)
 
+-- the result is stable
+pub result-stable : (r : Round) → Proper r → Stable r (result r)
+unfolding got
+result-stable r ok =
+    rw (fun-ext (result-got r ok)) (stable-held r ok (final (market-of r)) (end-stable (market-of r) (market-lawful r ok)))
+
 pub best-stable : Best-stable
-unfolding Best-stable got position-of
+unfolding Best-stable position-of
 best-stable r ok = (
-  rw (fun-ext (result-got r ok)) (stable-held r ok (final (market-of r)) (end-stable (market-of r) (market-lawful r ok))),
+  result-stable r ok,
   λ m st a l. rw (rank-result r ok a) (end-dearest (market-of r) (market-lawful r ok) _ (stable-from-given r ok m st) a),
 )
 
