@@ -14,3 +14,4 @@ pub mod Same
 pub mod Promised
 pub mod Orders
 pub mod Cuts
+pub mod Rounds

@@ -5,3 +5,4 @@ pub mod Laws
 pub mod ByPoints
 pub mod Office
 pub mod Cuts
+pub mod Rounds
