@@ -15,3 +15,4 @@ pub mod Promised
 pub mod Orders
 pub mod Cuts
 pub mod Rounds
+pub mod Judging

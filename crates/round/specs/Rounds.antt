@@ -1,13 +1,17 @@
 -- Rounds worked out by hand, with what must come out, in one table. Points are by workshop, in the order of applicants; 0 points
 -- are no row. The first applicant's lot is 1, the second's 2, and so on. Nowhere is told as `none`.
 use mathlib.Core.Path.{_≡_}
+use mathlib.Core.Bool.{Bool, true, false}
 use mathlib.Core.List.{List, [], _∷_, map}
 use mathlib.Core.Option.{Option, some, none}
 use Prim.Native.Nat.{ℕ, suc}
 use lib.Dec.{ltb}
-use lib.ListN.{length}
+use lib.ListN.{length, getD}
 use Rattle.std.specs.Iters.{counting}
+use Rattle.std.specs.Orderings.{Decides}
+use Rattle.std.specs.shelf.Lists.{All}
 use Rattle.round.specs.Places.{Round, result, nowhere, pick}
+use Rattle.round.specs.Promise.{Stable}
 use Rattle.round.specs.ByPoints.{worth-of}
 use Rattle.round.specs.Cuts.{Told, is-open, is-shut, is-full, told-at}
 use Rattle.round.specs.Office.{asks-of}
@@ -87,3 +91,36 @@ worked =
 -- of each round in the table comes out what stands beside it
 unfoldable pub Worked-out : Type 0
 Worked-out = map (λ w. outcome-of (w .round)) worked ≡ map (λ w. w .outcome) worked
+
+-- an assignment written as a list; who does not stand in it is nowhere
+unfoldable pub assignment : Round → List (Option ℕ) → ℕ → ℕ
+assignment r l a = elim (getD l a none) [ none ↦ nowhere r | some p ↦ p ]
+
+-- an assignment, and whether it is stable
+pub record Judged : Type 0 where
+  pub round : Round
+  pub gets : List (Option ℕ)
+  pub stable : Bool
+
+unfoldable pub judged : List Judged
+judged =
+    -- what comes out of the first round; and what comes out if each in turn takes the first of its list that is free, by lot alone; if
+    -- a place once given is not asked again; if one workshop takes more than its places
+    record { round = round-a; gets = some 1 ∷ some 0 ∷ none ∷ some 2 ∷ []; stable = true }
+    ∷ record { round = round-a; gets = some 0 ∷ none ∷ some 1 ∷ some 2 ∷ []; stable = false }
+    ∷ record { round = round-a; gets = none ∷ some 0 ∷ some 1 ∷ some 2 ∷ []; stable = false }
+    ∷ record { round = round-a; gets = some 1 ∷ some 0 ∷ some 1 ∷ some 2 ∷ []; stable = false }
+    -- the dearest stable assignment of two, and the other; nobody placed
+    ∷ record { round = round-b; gets = some 0 ∷ some 1 ∷ []; stable = true }
+    ∷ record { round = round-b; gets = some 1 ∷ some 0 ∷ []; stable = true }
+    ∷ record { round = round-b; gets = none ∷ none ∷ []; stable = false }
+    -- a place that is not in the list; one without points; one that is not there; a place left free
+    ∷ record { round = round-c; gets = some 0 ∷ none ∷ []; stable = false }
+    ∷ record { round = round-d; gets = some 0 ∷ some 0 ∷ []; stable = false }
+    ∷ record { round = round-e; gets = some 0 ∷ []; stable = false }
+    ∷ record { round = round-f; gets = some 0 ∷ some 1 ∷ none ∷ none ∷ []; stable = false }
+    ∷ []
+
+-- the given definition of a stable assignment tells them apart
+unfoldable pub Told-apart : Type 0
+Told-apart = All (λ j. Decides (j .stable) (Stable (j .round) (assignment (j .round) (j .gets)))) judged
