@@ -14,7 +14,7 @@ use Rattle.round.specs.Promise.{Proper, Stable, rank, given, with-list, Truthf
 use Rattle.round.specs.Market.{Market, Lawful, Stable-at, final, got, held, placed-at}
 use Rattle.round.specs.Laws.{with-wish, Agrees}
 use Rattle.round.specs.ByPoints.{keeps-best, wish-of, market-of}
-use Rattle.round.specs.Office.{position-of, with-lists, Not-all-gain}
+use Rattle.round.specs.Office.{position-of, with-lists, Not-all-liars-gain}
 use Rattle.round.proofs.Theorems.{end-stable, end-dearest, same-numbers, one-more, not-all-gain, no-gain}
 use Rattle.round.proofs.Ranks.{rank-bound, rank-nowhere, market-lawful}
 use Rattle.round.proofs.Bridge.{result-got}
@@ -86,9 +86,9 @@ module _ (r : Round) (ls : List (List ℕ)) (long : length ls ≡ length (r .lis
   unfolding market-of wish-of
   rank-other ok a = rw (other-market, result-got (with-lists r ls) ok a)
 
-pub not-all-gain-by-lists : Not-all-gain
-unfolding Not-all-gain market-of
-not-all-gain-by-lists r ls liar ok ok′ long same b lb t gain =
+pub not-all-liars-gain : Not-all-liars-gain
+unfolding Not-all-liars-gain market-of
+not-all-liars-gain r ls liar ok ok′ long same b lb t gain =
     not-all-gain (market-of r) (wish-of (with-lists r ls)) liar (market-lawful r ok) (other-lawful r ls long ok′) (λ a e. agrees-from r ls long a (same a e)) b lb t
     (λ a la ta. let g = gain a la ta in let e = rank-other r ls long ok′ a in let f = rank-result r ok a in omega arith)
 
