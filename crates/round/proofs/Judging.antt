@@ -1,15 +1,14 @@
 -- Whether an assignment is stable can be computed; so the judged assignments of the worked rounds are told apart.
-use mathlib.Core.Path.{_≡_, refl, sym, _∙_}
+use mathlib.Core.Path.{_≡_, refl}
 use mathlib.Core.Bool.{Bool, true, false, not, _&&_, _||_}
 use mathlib.Core.List.{List, [], _∷_, map}
-use mathlib.Core.Logic.{_⊎_, inl, inr}
 use Prim.Native.Nat.{ℕ, zero, suc, _≤_, _<_}
 use lib.Dec.{eqb, leb, ltb}
 use lib.ListN.{length, getD}
 use Rattle.std.specs.Orderings.{Decides}
 use Rattle.std.specs.shelf.Lists.{All}
 use Rattle.std.proofs.shelf.Tests.{leb-true, le-leb, false≢true}
-use Rattle.std.proofs.shelf.Ways.{decides-at, decides-like, decides-not, decides-and, decides-or, decides-ltb, decides-eqb, decides-below-and}
+use Rattle.std.proofs.shelf.Ways.{decides-at, decides-like, decides-and, decides-or, decides-ltb, decides-eqb, decides-below-and}
 use Rattle.round.specs.Places.{Round, point, nowhere}
 use Rattle.round.specs.Promise.{Stable, rank, given}
 use Rattle.round.specs.ByPoints.{worth-of}

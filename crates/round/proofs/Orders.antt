@@ -1,15 +1,15 @@
 -- Asking by the given `refused`, one after the other, in groups or all together: all orders come to one end.
-use mathlib.Core.Path.{_≡_, refl, sym, ap, fun-ext, _∙_}
-use mathlib.Core.Bool.{Bool, true, false}
-use mathlib.Core.List.{List, []}
-use mathlib.Core.Logic.{_⊎_, inl, inr}
-use Prim.Native.Nat.{ℕ, _+_, _≤_, _<_}
+use mathlib.Core.Path.{_≡_, sym, ap, fun-ext, _∙_}
+use mathlib.Core.Bool.{false}
+use mathlib.Core.List.{List}
+use mathlib.Core.Logic.{inl, inr}
+use Prim.Native.Nat.{ℕ, _<_}
 use native.Mathlib.Omega.{arith}
-use lib.ListN.{length, getD, length-replicate, List·getD-eq-default}
+use lib.ListN.{length, length-replicate, List·getD-eq-default}
 use Rattle.std.proofs.shelf.Tests.{cases-lt}
-use Rattle.round.specs.Places.{Round, refused, steps, total, result, asked}
+use Rattle.round.specs.Places.{Round, refused, steps}
 use Rattle.round.specs.Promise.{Proper}
-use Rattle.round.specs.Market.{Reached, start, then, Moves, Closed, turned, final, got, held, asks, asks-at, entries}
+use Rattle.round.specs.Market.{Reached, start, then, Moves, Closed, got, held, asks-at, entries}
 use Rattle.round.specs.ByPoints.{wish-of, market-of}
 use Rattle.round.specs.Office.{Any-order, Comes-to, first, next, Goes-on, asks-from}
 use Rattle.round.proofs.Askers.{turned-parts}
