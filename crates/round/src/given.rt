@@ -1,8 +1,8 @@
 // The given statements and those beyond them, each on a function's contract: what is promised of every round.
 ghost use Rattle.round.specs.Cuts.{Has-cuts, Reached-cut, First-reached};
-ghost use Rattle.round.specs.Office.{Any-order, Not-all-liars-gain, By-points, By-market, Same-stable};
+ghost use Rattle.round.specs.Office.{All-together, Any-order, Not-all-liars-gain, By-points, By-market, Same-stable};
 ghost use Rattle.round.specs.Promise.{Ends, Best-stable, Same-left, Truthful, More-applicants, Readable};
-ghost use Rattle.round.specs.Rounds.{Worked-out, Told-apart};
+ghost use Rattle.round.specs.Rounds.{All-proper, Worked-out, Told-apart};
 
 // After as many steps as there are entries nobody is turned down any more, whatever the lists and points.
 pub fn steps_end()
@@ -32,6 +32,11 @@ pub fn more_applicants()
 // Nobody gets anything less dear than a place whose cut it reaches.
 pub fn readable()
     ensures { λ _. ⌜ Readable ⌝ }
+{}
+
+// All together is one of the orders, and it comes to an end.
+pub fn all_together()
+    ensures { λ _. ⌜ All-together ⌝ }
 {}
 
 // In whatever order applicants ask, what they get and the number of asks are the same.
@@ -77,6 +82,11 @@ pub fn first_reached()
 // The worked rounds come out as their table says.
 pub fn worked_out()
     ensures { λ _. ⌜ Worked-out ⌝ }
+{}
+
+// Each of them is a proper round.
+pub fn all_proper()
+    ensures { λ _. ⌜ All-proper ⌝ }
 {}
 
 // And assignments that go another way are told apart from the stable ones.

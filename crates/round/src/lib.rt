@@ -77,6 +77,8 @@ pub fn no_gain() -> u8
 // What is promised of every round: the given statements and those beyond them.
 mod given;
 
+pub use given::all_proper;
+pub use given::all_together;
 pub use given::any_order;
 pub use given::best_stable;
 pub use given::by_market;
