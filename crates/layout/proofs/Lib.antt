@@ -1,0 +1,3 @@
+pub mod Firsts
+pub mod Flats
+pub mod Offsets
