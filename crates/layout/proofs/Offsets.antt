@@ -28,6 +28,10 @@ rises g (suc n) each i l =
     (cases-lt i (suc n))
 
 module _ (b : List ℕ) where
+  pub record-at-none : record-at b 0 ≡ 4 + workshops-in b
+  unfolding record-at
+  record-at-none = refl
+
   pub record-at-more : (a : ℕ) → record-at b (a + 1) ≡ record-at b a + 3 + count-in b a
   unfolding record-at
   record-at-more a = rw (add-one a)
