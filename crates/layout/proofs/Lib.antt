@@ -5,3 +5,4 @@ pub mod Seen
 pub mod Clean
 pub mod Rows
 pub mod Told
+pub mod ReadProper
