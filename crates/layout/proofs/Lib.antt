@@ -6,3 +6,5 @@ pub mod Clean
 pub mod Rows
 pub mod Told
 pub mod ReadProper
+pub mod Says
+pub mod Written
