@@ -1,0 +1,61 @@
+// The judging of the bytes of a round: the parts of the format in the order in which they stand, and in each the first fault. Nothing
+// is written.
+ghost use mathlib.Core.Path.{_≡_};
+ghost use Prim.Native.Nat.{_+_, _≤_};
+ghost use lib.ListN.{length};
+ghost use Rattle.std.specs.Vec.{made};
+ghost use Rattle.layout.specs.Slices.{outcome};
+ghost use Rattle.layout.specs.Bytes.{byte, first-of, places-from, places-fault};
+ghost use Rattle.codec.specs.Readers.{stands-in, list-fault-at};
+use crate::bytes::byte_at;
+use crate::bytes::word_at;
+use layout::Refusal;
+
+// The most applicants of a round.
+pub const MOST_APPLICANTS: usize = 4000;
+
+// The most workshops of a round.
+pub const MOST_WORKSHOPS: usize = 256;
+
+// The most places of a workshop.
+pub const MOST_PLACES: u8 = 40;
+
+// The most entries of a list.
+pub const MOST_ENTRIES: u8 = 20;
+
+// The most rows of a round.
+pub const MOST_ROWS: usize = 60000;
+
+// Where the places of the workshops begin.
+pub const PLACES_FROM: usize = 4;
+
+// The places of the workshops, a byte each. What stands behind them begins at the answer.
+fn judge_places(bytes: &[u8], workshops: usize) -> Result<usize, Refusal>
+    requires { ⌜ 4 ≤ length (now bytes) ⌝ }
+    ensures answer { λ r. ⌜ r ≡ outcome (first-of (places-fault (now (bytes .entry))) workshops) (places-from + workshops) ⌝ }
+    ensures within { λ r. ⌜ made r (λ q. q ≤ length (now (bytes .entry))) ⌝ }
+{
+    for w in 0..workshops {
+        let Some(places) = byte_at(bytes, PLACES_FROM + w) else {
+            return Err(Refusal::Short(bytes.len()));
+        };
+        if places > MOST_PLACES {
+            return Err(Refusal::BadSize(PLACES_FROM + w));
+        }
+    }
+    Ok(PLACES_FROM + workshops)
+}
+
+// Whether w is one of the `count` bytes from `from` on.
+fn stands_in(bytes: &[u8], from: usize, count: usize, w: u8) -> bool
+    requires { ⌜ from + count ≤ length (now bytes) ⌝ }
+    ensures { λ r. ⌜ r ≡ stands-in (now (bytes .entry)) from w count ⌝ }
+{
+    let mut found = false;
+    for j in 0..count {
+        if bytes[from + j] == w {
+            found = true;
+        }
+    }
+    found
+}
