@@ -1,6 +1,8 @@
 -- The first fault among many: how a loop that judges one after the other steps, and how it ends at a fault.
 use mathlib.Core.Path.{_≡_, refl, sym, ap}
 use Prim.Native.Nat.{ℕ, zero, suc, _+_, _≤_, _<_}
+use mathlib.Core.List.{List}
+use lib.ListN.{length}
 use native.Mathlib.Omega.{arith}
 use native.Mathlib.Numerals.{add-one}
 use Rattle.std.specs.declared.option.Option.{Option}
@@ -11,6 +13,8 @@ use Rattle.std.proofs.shelf.Tests.{cases-eq}
 use Rattle.layout.specs.Slices.{or-else, outcome}
 use Rattle.layout.specs.Bytes.{first-of}
 use Rattle.layout.specs.declared.Refusal.{Refusal}
+use Rattle.std.proofs.shelf.Ways.{tells}
+use Rattle.codec.specs.Readers.{there}
 
 pub first-of-none : (f : ℕ → Option Refusal) → first-of f 0 ≡ None
 unfolding first-of
@@ -41,3 +45,10 @@ none-from-ok None v x h = grind arith
 pub refused-at : {T : Type 0} (f : ℕ → Option Refusal) (v : T) (e : Refusal) (i n : ℕ) → first-of f i ≡ None → f i ≡ Some e → i < n →
     _≡_ {A = Result T Refusal} (Err e) (outcome (first-of f n) v)
 refused-at f v e i n h g l = let s = first-of-stop f e i n h g l in rw s
+
+-- what a leaf reader's answer says of the bytes
+pub got-there : (b : List ℕ) (at k v x : ℕ) → Some x ≡ there b at k v → (at + k ≤ length b) × (x ≡ v)
+got-there b at k v x h = grind (arith, tells)
+
+pub not-there : (b : List ℕ) (at k v : ℕ) → None ≡ there b at k v → length b < at + k
+not-there b at k v h = grind (arith, tells)

@@ -59,3 +59,26 @@ fn stands_in(bytes: &[u8], from: usize, count: usize, w: u8) -> bool
     }
     found
 }
+
+// The count and the list of the record at `at`, whose lot is there. What stands behind the record begins at the answer.
+fn judge_list(bytes: &[u8], at: usize, workshops: usize) -> Result<usize, Refusal>
+    requires { ⌜ at + 2 ≤ length (now bytes) ⌝ }
+    ensures answer { λ r. ⌜ r ≡ outcome (list-fault-at (now (bytes .entry)) workshops at) (at + 3 + byte (now (bytes .entry)) (at + 2)) ⌝ }
+    ensures within { λ r. ⌜ made r (λ q. q ≤ length (now (bytes .entry))) ⌝ }
+{
+    let Some(count) = byte_at(bytes, at + 2) else {
+        return Err(Refusal::Short(bytes.len()));
+    };
+    if count > MOST_ENTRIES {
+        return Err(Refusal::LongList(at + 2));
+    }
+    for j in 0..count as usize {
+        let Some(entry) = byte_at(bytes, at + 3 + j) else {
+            return Err(Refusal::Short(bytes.len()));
+        };
+        if entry as usize >= workshops || stands_in(bytes, at + 3, j, entry) {
+            return Err(Refusal::BadEntry(at + 3 + j));
+        }
+    }
+    Ok(at + 3 + count as usize)
+}
