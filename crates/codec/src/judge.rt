@@ -5,7 +5,7 @@ ghost use Prim.Native.Nat.{_+_, _≤_};
 ghost use lib.ListN.{length};
 ghost use Rattle.std.specs.Vec.{made};
 ghost use Rattle.layout.specs.Slices.{outcome};
-ghost use Rattle.layout.specs.Bytes.{byte, first-of, places-from, places-fault};
+ghost use Rattle.layout.specs.Bytes.{byte, first-of, places-from, places-fault, workshops-in, record-at, record-fault};
 ghost use Rattle.codec.specs.Readers.{stands-in, list-fault-at};
 use crate::bytes::byte_at;
 use crate::bytes::word_at;
@@ -81,4 +81,30 @@ fn judge_list(bytes: &[u8], at: usize, workshops: usize) -> Result<usize, Refusa
         }
     }
     Ok(at + 3 + count as usize)
+}
+
+// The records of the applicants, which begin at `from`. What stands behind them begins at the answer.
+fn judge_records(bytes: &[u8], from: usize, applicants: usize, workshops: usize) -> Result<usize, Refusal>
+    requires place { ⌜ from ≡ record-at (now bytes) 0 ⌝ }
+    requires size { ⌜ workshops ≡ workshops-in (now bytes) ⌝ }
+    requires within { ⌜ from ≤ length (now bytes) ⌝ }
+    ensures answer { λ r. ⌜ r ≡ outcome (first-of (record-fault (now (bytes .entry))) applicants) (record-at (now (bytes .entry)) applicants) ⌝ }
+    ensures within { λ r. ⌜ made r (λ q. q ≤ length (now (bytes .entry))) ⌝ }
+{
+    let mut seen = [false; 65536];
+    let mut at = from;
+    for a in 0..applicants {
+        let Some(lot) = word_at(bytes, at) else {
+            return Err(Refusal::Short(bytes.len()));
+        };
+        if seen[lot as usize] {
+            return Err(Refusal::LotTaken(at));
+        }
+        seen[lot as usize] = true;
+        at = match judge_list(bytes, at, workshops) {
+            Ok(next) => next,
+            Err(e) => return Err(e),
+        };
+    }
+    Ok(at)
 }
