@@ -1,5 +1,5 @@
 -- The list of a record, judged by its place: the same as judged by the applicant.
-use mathlib.Core.Path.{_≡_, refl, ap, fun-ext}
+use mathlib.Core.Path.{_≡_, refl, sym, ap, fun-ext}
 use mathlib.Core.Bool.{Bool, true, false, _||_}
 use mathlib.Core.List.{List}
 use Prim.Native.Nat.{ℕ, zero, suc, _+_, _≤_, _<_}
@@ -58,7 +58,11 @@ module _ (b : List ℕ) (a : ℕ) where
     unfolding record-at
     record-at-more = rw (add-one, place)
 
--- the array of the lots seen
+-- the array of the lots seen: what it says of the lot at a place, before any applicant, and after one more
+pub lot-seen-is : (b : List ℕ) (a at lot : ℕ) (seen : List Bool) → lot ≡ word b at → lot < 65536 →
+    ((v : ℕ) → v < 65536 → getD seen v false ≡ lot-seen b v a) → lot-seen b (word b at) a ≡ getD seen lot false
+lot-seen-is b a at lot seen e l h = rw (← e) (sym (h lot l))
+
 pub seen-none : (b : List ℕ) (v : ℕ) → v < 65536 → getD (replicate 65536 false) v false ≡ lot-seen b v 0
 unfolding lot-seen
 seen-none b v l = getD-replicate 65536 v false false l

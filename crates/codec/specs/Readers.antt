@@ -8,7 +8,7 @@ use Rattle.std.specs.declared.option.Option.{Option}
 use Rattle.std.specs.declared.option.Option.the-variants.{Some, None}
 use Rattle.layout.specs.Slices.{or-else}
 use Rattle.layout.specs.Tables.{most-entries}
-use Rattle.layout.specs.Bytes.{byte, word, missing, refuse, first-of}
+use Rattle.layout.specs.Bytes.{byte, word, missing, refuse, first-of, row-workshop-in, row-applicant-in}
 use Rattle.layout.specs.declared.Refusal.{Refusal}
 use Rattle.layout.specs.declared.Refusal.the-variants.{LongList, BadEntry, BadRow, RowOrder}
 
@@ -33,3 +33,23 @@ list-fault-at b m at =
     or-else (missing b (at + 2) 1)
     (or-else (refuse (ltb most-entries (byte b (at + 2))) (LongList (at + 2)))
     (first-of (entry-fault-at b m at) (byte b (at + 2))))
+
+-- the row at `at`, of a round of n applicants and m workshops, where no row may come before applicant a of workshop w
+abbrev pub row-fault-at : List ℕ → ℕ → ℕ → ℕ → ℕ → ℕ → Option Refusal
+row-fault-at b n m w a at =
+    or-else (missing b at 1)
+    (or-else (refuse (leb m (byte b at)) (BadRow at))
+    (or-else (missing b (at + 1) 2)
+    (or-else (refuse (leb n (word b (at + 1))) (BadRow at))
+    (or-else (missing b (at + 3) 2)
+    (or-else (refuse (eqb (word b (at + 3)) 0) (BadRow at))
+    (refuse (not (ltb w (byte b at) || (eqb w (byte b at) && leb a (word b (at + 1))))) (RowOrder at)))))))
+
+-- where row i may stand at the earliest: after the row before it
+unfoldable pub least-workshop : List ℕ → ℕ → ℕ
+least-workshop b zero = 0
+least-workshop b (suc i) = row-workshop-in b i
+
+unfoldable pub least-applicant : List ℕ → ℕ → ℕ
+least-applicant b zero = 0
+least-applicant b (suc i) = row-applicant-in b i + 1

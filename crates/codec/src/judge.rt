@@ -5,8 +5,8 @@ ghost use Prim.Native.Nat.{_+_, _≤_};
 ghost use lib.ListN.{length};
 ghost use Rattle.std.specs.Vec.{made};
 ghost use Rattle.layout.specs.Slices.{outcome};
-ghost use Rattle.layout.specs.Bytes.{byte, first-of, places-from, places-fault, workshops-in, record-at, record-fault};
-ghost use Rattle.codec.specs.Readers.{stands-in, list-fault-at};
+ghost use Rattle.layout.specs.Bytes.{byte, word, first-of, places-from, places-fault, workshops-in, record-at, record-fault};
+ghost use Rattle.codec.specs.Readers.{stands-in, list-fault-at, row-fault-at};
 use crate::bytes::byte_at;
 use crate::bytes::word_at;
 use layout::Refusal;
@@ -28,6 +28,13 @@ pub const MOST_ROWS: usize = 60000;
 
 // Where the places of the workshops begin.
 pub const PLACES_FROM: usize = 4;
+
+// A workshop and an applicant: where a row may stand at the earliest.
+#[derive(Clone, Copy)]
+struct Mark {
+    workshop: usize,
+    applicant: usize,
+}
 
 // The places of the workshops, a byte each. What stands behind them begins at the answer.
 fn judge_places(bytes: &[u8], workshops: usize) -> Result<usize, Refusal>
@@ -107,4 +114,35 @@ fn judge_records(bytes: &[u8], from: usize, applicants: usize, workshops: usize)
         };
     }
     Ok(at)
+}
+
+// The row at `at`, which may not come before `least`. The next row may not come before the answer.
+fn judge_row(bytes: &[u8], at: usize, applicants: usize, workshops: usize, least: Mark) -> Result<Mark, Refusal>
+    ensures answer { λ r. ⌜ r ≡ outcome (row-fault-at (now (bytes .entry)) applicants workshops (least .workshop) (least .applicant) at) (record { workshop = byte (now (bytes .entry)) at; applicant = word (now (bytes .entry)) (at + 1) + 1 }) ⌝ }
+    ensures within { λ r. ⌜ made r (λ _. at + 5 ≤ length (now (bytes .entry))) ⌝ }
+{
+    let Some(workshop) = byte_at(bytes, at) else {
+        return Err(Refusal::Short(bytes.len()));
+    };
+    let workshop = workshop as usize;
+    if workshop >= workshops {
+        return Err(Refusal::BadRow(at));
+    }
+    let Some(applicant) = word_at(bytes, at + 1) else {
+        return Err(Refusal::Short(bytes.len()));
+    };
+    let applicant = applicant as usize;
+    if applicant >= applicants {
+        return Err(Refusal::BadRow(at));
+    }
+    let Some(points) = word_at(bytes, at + 3) else {
+        return Err(Refusal::Short(bytes.len()));
+    };
+    if points == 0 {
+        return Err(Refusal::BadRow(at));
+    }
+    if workshop < least.workshop || workshop == least.workshop && applicant < least.applicant {
+        return Err(Refusal::RowOrder(at));
+    }
+    Ok(Mark { workshop, applicant: applicant + 1 })
 }
