@@ -5,7 +5,7 @@ ghost use Prim.Native.Nat.{_+_, _≤_};
 ghost use lib.ListN.{length};
 ghost use Rattle.std.specs.Vec.{made};
 ghost use Rattle.layout.specs.Slices.{outcome};
-ghost use Rattle.layout.specs.Bytes.{byte, word, first-of, places-from, places-fault, workshops-in, record-at, record-fault};
+ghost use Rattle.layout.specs.Bytes.{byte, word, first-of, places-from, places-fault, applicants-in, workshops-in, record-at, record-fault, row-at, row-fault};
 ghost use Rattle.codec.specs.Readers.{stands-in, list-fault-at, row-fault-at};
 use crate::bytes::byte_at;
 use crate::bytes::word_at;
@@ -145,4 +145,25 @@ fn judge_row(bytes: &[u8], at: usize, applicants: usize, workshops: usize, least
         return Err(Refusal::RowOrder(at));
     }
     Ok(Mark { workshop, applicant: applicant + 1 })
+}
+
+// The rows of the point sheets, which begin at `from`. What stands behind them begins at the answer.
+fn judge_rows(bytes: &[u8], from: usize, rows: usize, applicants: usize, workshops: usize) -> Result<usize, Refusal>
+    requires place { ⌜ from ≡ row-at (now bytes) 0 ⌝ }
+    requires many { ⌜ applicants ≡ applicants-in (now bytes) ⌝ }
+    requires size { ⌜ workshops ≡ workshops-in (now bytes) ⌝ }
+    requires within { ⌜ from ≤ length (now bytes) ⌝ }
+    ensures answer { λ r. ⌜ r ≡ outcome (first-of (row-fault (now (bytes .entry))) rows) (row-at (now (bytes .entry)) rows) ⌝ }
+    ensures within { λ r. ⌜ made r (λ q. q ≤ length (now (bytes .entry))) ⌝ }
+{
+    let mut least = Mark { workshop: 0, applicant: 0 };
+    let mut at = from;
+    for i in 0..rows {
+        least = match judge_row(bytes, at, applicants, workshops, least) {
+            Ok(next) => next,
+            Err(e) => return Err(e),
+        };
+        at += 5;
+    }
+    Ok(at)
 }
