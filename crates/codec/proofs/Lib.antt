@@ -1,3 +1,5 @@
+pub mod Checked
+pub mod Faults
 pub mod Firsts
 pub mod Lists
 pub mod Rows

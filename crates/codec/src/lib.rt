@@ -9,4 +9,5 @@ pub use judge::MOST_ENTRIES;
 pub use judge::MOST_PLACES;
 pub use judge::MOST_ROWS;
 pub use judge::MOST_WORKSHOPS;
+pub use judge::check;
 pub use tables::Round;
