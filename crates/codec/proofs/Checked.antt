@@ -17,7 +17,8 @@ use Rattle.layout.specs.declared.Refusal.the-variants.{Trailing}
 use Rattle.layout.specs.declared.Sizes.{Sizes}
 use Rattle.codec.specs.declared.judge.Head.{Head}
 use Rattle.codec.specs.Readers.{count-fault-at}
-use Rattle.codec.proofs.Faults.{fault-in-head, fault-in-places, fault-in-records, fault-in-row-count, fault-in-rows, fault-at-end, record-at-is}
+use Rattle.codec.proofs.Faults.{fault-in-head, fault-in-places, fault-in-records, fault-in-row-count, fault-in-rows, fault-at-end}
+use Rattle.layout.proofs.Offsets.{record-at-none, record-at-is}
 use Rattle.codec.proofs.Firsts.{fault-from-err, none-from-ok}
 
 -- the check's answer, and a part's: an error of the part is the check's
@@ -78,7 +79,7 @@ module _ (b : List ℕ) where
 
         -- how far the records reach: three bytes each, and the entries
         pub entries-found : p + 3 * n + start-of b (applicants-in b) ≡ q
-        entries-found = omega (arith, records-found, rows-found, applicants-found, record-at-is b (applicants-in b))
+        entries-found = omega (arith, records-found, rows-found, applicants-found, record-at-none b, record-at-is b (applicants-in b))
 
         module _ (k : ℕ) (counted : Part (Ok k) (count-fault-at b q) (word b q)) where
           no-count : rows-fault b ≡ None
