@@ -2,4 +2,5 @@ pub mod Checked
 pub mod Faults
 pub mod Firsts
 pub mod Lists
+pub mod Puts
 pub mod Rows
