@@ -1,6 +1,7 @@
 pub mod Checked
 pub mod Faults
 pub mod Firsts
+pub mod Fronts
 pub mod Lists
 pub mod Puts
 pub mod Rows
