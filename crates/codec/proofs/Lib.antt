@@ -1,5 +1,6 @@
 pub mod Checked
 pub mod Faults
+pub mod Fills
 pub mod Firsts
 pub mod Fronts
 pub mod Lists

@@ -55,13 +55,26 @@ length-put at xs old l =
     )
 
 -- the step of a loop that writes f i at i, or f i at `at + i`
-pub over-table-more : (f : ℕ → ℕ) (i : ℕ) (old : List ℕ) → i < length old → set (over (table f i) old) i (f i) ≡ over (table f (i + 1)) old
-over-table-more f i old l =
-    set-is-put i (f i) (over (table f i) old) (omega (arith, length-table f i, length-over (table f i) old (omega (arith, length-table f i))))
-    ∙ (put-over i (table f i) (f i ∷ []) old (length-table f i) ∙ ap (λ (z : List ℕ). over z old) (sym (table-more f i)))
+pub over-table-more : (f : ℕ → ℕ) (i y : ℕ) (s old : List ℕ) → s ≡ over (table f i) old → y ≡ f i → i < length old →
+    set s i y ≡ over (table f (i + 1)) old
+over-table-more f i y s old e v l =
+    let len = length-table f i in
+    ap₂ (λ (x : List ℕ) (z : ℕ). set x i z) e v
+    ∙ (set-is-put i (f i) (over (table f i) old) (omega (arith, length-over (table f i) old (omega arith)))
+    ∙ (put-over i (table f i) (f i ∷ []) old len ∙ ap (λ (z : List ℕ). over z old) (sym (table-more f i))))
 
-pub put-table-more : (f : ℕ → ℕ) (at i : ℕ) (old : List ℕ) → at + i < length old → set (put at (table f i) old) (at + i) (f i) ≡ put at (table f (i + 1)) old
-put-table-more f at i old l =
-    set-is-put (at + i) (f i) (put at (table f i) old) (omega (arith, length-table f i, length-put at (table f i) old (omega (arith, length-table f i))))
-    ∙ (put-put at (at + i) (table f i) (f i ∷ []) old (omega arith) (omega (arith, length-table f i))
-    ∙ ap (λ (z : List ℕ). put at z old) (sym (table-more f i)))
+-- after the loop, which stopped at n
+pub over-end : (f : ℕ → List ℕ) (i n : ℕ) (s old : List ℕ) → i ≡ n → s ≡ over (f i) old → s ≡ over (f n) old
+over-end f i n s old k e = rw k at e
+
+pub over-table-end : (f : ℕ → ℕ) (i n y : ℕ) (s old : List ℕ) → i ≡ n → s ≡ over (table f i) old → y ≡ f i → n < length old →
+    set s n y ≡ over (table f (n + 1)) old
+over-table-end f i n y s old k e v l = over-table-more f n y s old (rw k at e) (rw k at v) l
+
+pub put-table-more : (f : ℕ → ℕ) (at i : ℕ) (s old : List ℕ) → s ≡ put at (table f i) old → at + i < length old →
+    set s (at + i) (f i) ≡ put at (table f (i + 1)) old
+put-table-more f at i s old e l =
+    let len = length-table f i in
+    ap (λ (x : List ℕ). set x (at + i) (f i)) e
+    ∙ (set-is-put (at + i) (f i) (put at (table f i) old) (omega (arith, length-put at (table f i) old (omega arith)))
+    ∙ (put-put at (at + i) (table f i) (f i ∷ []) old (omega arith) (omega arith) ∙ ap (λ (z : List ℕ). put at z old) (sym (table-more f i))))

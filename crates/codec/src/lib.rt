@@ -1,5 +1,6 @@
 // Reading and writing the bytes of a round.
 mod bytes;
+mod fill;
 mod judge;
 mod tables;
 mod view;
