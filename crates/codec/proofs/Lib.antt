@@ -6,3 +6,4 @@ pub mod Fronts
 pub mod Lists
 pub mod Puts
 pub mod Rows
+pub mod Sheets
