@@ -11,7 +11,7 @@ use Rattle.std.specs.declared.option.Option.the-variants.{None}
 use Rattle.std.proofs.shelf.Lists.{length-append, getD-append-left, getD-append-right}
 use Rattle.std.proofs.shelf.Tests.{cases-lt}
 use Rattle.layout.specs.Slices.{over, table}
-use Rattle.layout.specs.Bytes.{workshops-in, rows-in, row-at, row-workshop-in, rows-before, fault}
+use Rattle.layout.specs.Bytes.{byte, workshops-in, rows-in, row-at, row-workshop-in, rows-before, fault}
 use Rattle.layout.proofs.Clean.{clean-from-none}
 use Rattle.layout.proofs.Flats.{length-table, getD-table, is-table}
 use Rattle.layout.proofs.Offsets.{rows-before-le}
@@ -35,15 +35,12 @@ module _ (b : List ℕ) where
   next-open-more i = ap (λ (k : ℕ). next-open b k) (add-one i)
 
 module _ (b : List ℕ) (none : fault b ≡ None) where
-  pub row-within : (i : ℕ) → i < rows-in b → row-at b i + 5 ≤ length b
-  row-within i l = omega (arith, clean-from-none b none .whole)
-
-  pub next-open-small : (i : ℕ) → i ≤ rows-in b → next-open b i ≤ workshops-in b
+  next-open-small : (i : ℕ) → i ≤ rows-in b → next-open b i ≤ workshops-in b
   unfolding next-open
   next-open-small zero l = omega arith
   next-open-small (suc i) l = omega (arith, clean-from-none b none .rows-workshop i l)
 
-  pub next-open-rises : (i : ℕ) → i < rows-in b → next-open b i ≤ row-workshop-in b i + 1
+  next-open-rises : (i : ℕ) → i < rows-in b → next-open b i ≤ row-workshop-in b i + 1
   unfolding next-open
   next-open-rises zero l = omega arith
   next-open-rises (suc i) l =
@@ -56,12 +53,38 @@ module _ (b : List ℕ) (none : fault b ≡ None) where
   past zero w l h = omega arith
   past (suc i) w l h = rows-before-below b (rows-in b) (rows-by-workshop b (clean-from-none b none)) w i l (omega arith)
 
-  pub opens : (i w : ℕ) → i < rows-in b → next-open b i ≤ w → w ≤ row-workshop-in b i → rows-before b w (rows-in b) ≡ i
+  opens : (i w : ℕ) → i < rows-in b → next-open b i ≤ w → w ≤ row-workshop-in b i → rows-before b w (rows-in b) ≡ i
   opens i w l h k =
       omega (arith, past i w (omega arith) h, rows-before-above b (rows-in b) (rows-by-workshop b (clean-from-none b none)) w i l k)
 
-  pub closes : (w : ℕ) → next-open b (rows-in b) ≤ w → rows-before b w (rows-in b) ≡ rows-in b
+  closes : (w : ℕ) → next-open b (rows-in b) ≤ w → rows-before b w (rows-in b) ≡ rows-in b
   closes w h = omega (arith, past (rows-in b) w (omega arith) h, rows-before-le b w (rows-in b))
+
+-- row i, by its place and by the first workshop whose start is not known
+module _ (b : List ℕ) (none : fault b ≡ None) (i rows at : ℕ) (many : rows ≡ rows-in b) (l : i < rows) (place : at ≡ row-at b i) where
+  pub row-within : at + 5 ≤ length b
+  row-within = omega (arith, clean-from-none b none .whole)
+
+  pub sheet-small : byte b at + 1 ≤ workshops-in b
+  sheet-small = rw place (omega (arith, clean-from-none b none .rows-workshop i (omega arith)))
+
+  module _ (next : ℕ) (open-is : next ≡ next-open b i) where
+    pub sheet-order : next ≤ byte b at + 1
+    sheet-order = rw place (omega (arith, next-open-rises b none i (omega arith)))
+
+    pub sheet-opens : (k : ℕ) → next ≤ k → k < byte b at + 1 → rows-before b k rows ≡ i
+    sheet-opens k h s = rw many (opens b none i k (omega arith) (omega arith) (let t = rw place at s in omega arith))
+
+-- and after the last row
+module _ (b : List ℕ) (none : fault b ≡ None) (i rows next : ℕ) (many : rows ≡ rows-in b) (ends : i ≡ rows) (open-is : next ≡ next-open b i) where
+  all-open : next ≡ next-open b (rows-in b)
+  all-open = open-is ∙ ap (λ (k : ℕ). next-open b k) (ends ∙ many)
+
+  pub last-small : next ≤ workshops-in b
+  last-small = omega (arith, all-open, next-open-small b none (rows-in b) (omega arith))
+
+  pub last-opens : (k : ℕ) → next ≤ k → rows-before b k rows ≡ rows
+  last-opens k h = rw many (closes b none k (omega (arith, all-open)))
 
 -- the same number from `next` up to `until`, behind the table up to `next`
 pub table-level : (f : ℕ → ℕ) (next until i : ℕ) → next ≤ until → ((k : ℕ) → next ≤ k → k < until → f k ≡ i) →
