@@ -3,12 +3,17 @@ ghost use mathlib.Core.Path.{_≡_};
 ghost use Prim.Native.Nat.{_+_, _-_, _≤_};
 ghost use lib.ListN.{length};
 ghost use Rattle.std.specs.declared.option.Option.the-variants.{None};
-ghost use Rattle.layout.specs.Slices.{over, table};
-ghost use Rattle.layout.specs.Bytes.{byte, places-from, seats-before, fault, applicants-in, record-at, lot-in, start-of, entries-below, workshops-in, rows-in, row-at, row-applicant-in, row-points-in, rows-before};
-ghost use Rattle.codec.specs.Fronts.{enough};
+ghost use Rattle.layout.specs.Slices.{over, table, laid, outcome, or-else};
+ghost use Rattle.layout.specs.Bytes.{byte, places-from, seats-before, fault, applicants-in, record-at, lot-in, start-of, entries-below, workshops-in, rows-in, row-at, row-applicant-in, row-points-in, rows-before, sizes-in, tables-in};
+ghost use Rattle.layout.specs.Encode.{As-written};
+ghost use Rattle.std.specs.Vec.{made};
+ghost use Rattle.codec.specs.Fronts.{enough, room-fault, fronts, Ready};
 ghost use Rattle.codec.specs.Puts.{put};
 use crate::bytes::word_in;
 use crate::judge::PLACES_FROM;
+use crate::judge::check;
+use layout::Lent;
+use layout::Refusal;
 use layout::Sizes;
 
 // Whether slices of these lengths have room for the tables.
@@ -134,4 +139,63 @@ fn fill_rows(
         at += 5;
     }
     open_sheets(row_starts, next, workshops + 1, rows as u32);
+}
+
+// The tables of the round that the bytes are, laid over the front of the slices, or the first fault; slices that are too short come
+// after all faults of the bytes. A refusal leaves every slice as it was.
+pub fn read(
+    bytes: &[u8],
+    seats: &mut [u32],
+    lots: &mut [u16],
+    starts: &mut [u32],
+    entries: &mut [u16],
+    row_starts: &mut [u32],
+    row_applicants: &mut [u16],
+    row_points: &mut [u16],
+) -> Result<Sizes, Refusal>
+    ensures answer { λ r. ⌜ r ≡ outcome (or-else (fault (now (bytes .entry))) (room-fault (sizes-in (now (bytes .entry))) (now (seats .entry)) (now (lots .entry)) (now (starts .entry)) (now (entries .entry)) (now («row_starts» .entry)) (now («row_applicants» .entry)) (now («row_points» .entry)))) (sizes-in (now (bytes .entry))) ⌝ }
+    ensures seated { λ r. ⌜ now (seats .exit) ≡ laid r (tables-in (now (bytes .entry)) .seats) (now (seats .entry)) ⌝ }
+    ensures drawn { λ r. ⌜ now (lots .exit) ≡ laid r (tables-in (now (bytes .entry)) .lots) (now (lots .entry)) ⌝ }
+    ensures started { λ r. ⌜ now (starts .exit) ≡ laid r (tables-in (now (bytes .entry)) .starts) (now (starts .entry)) ⌝ }
+    ensures listed { λ r. ⌜ now (entries .exit) ≡ laid r (tables-in (now (bytes .entry)) .entries) (now (entries .entry)) ⌝ }
+    ensures sheeted { λ r. ⌜ now («row_starts» .exit) ≡ laid r (tables-in (now (bytes .entry)) .row-starts) (now («row_starts» .entry)) ⌝ }
+    ensures rowed { λ r. ⌜ now («row_applicants» .exit) ≡ laid r (tables-in (now (bytes .entry)) .row-applicants) (now («row_applicants» .entry)) ⌝ }
+    ensures pointed { λ r. ⌜ now («row_points» .exit) ≡ laid r (tables-in (now (bytes .entry)) .row-points) (now («row_points» .entry)) ⌝ }
+    ensures written { λ _. ⌜ As-written (now (bytes .entry)) ⌝ }
+    ensures ready { λ r. ⌜ made r (λ s. Ready s (now (seats .exit)) (now (lots .exit)) (now (starts .exit)) (now (entries .exit)) (now («row_starts» .exit)) (now («row_applicants» .exit)) (now («row_points» .exit))) ⌝ }
+    ensures whole { λ r. ⌜ made r (λ s. fronts s (now (seats .exit)) (now (lots .exit)) (now (starts .exit)) (now (entries .exit)) (now («row_starts» .exit)) (now («row_applicants» .exit)) (now («row_points» .exit)) ≡ tables-in (now (bytes .entry))) ⌝ }
+{
+    let sizes = check(bytes)?;
+    if !has_room(
+        sizes,
+        seats.len(),
+        lots.len(),
+        starts.len(),
+        entries.len(),
+        row_starts.len(),
+        row_applicants.len(),
+        row_points.len(),
+    ) {
+        return Err(Refusal::NoRoom(Lent::RoundTables));
+    }
+    let Sizes {
+        applicants,
+        workshops,
+        entries: listed,
+        rows,
+    } = sizes;
+    let records_from = PLACES_FROM + workshops;
+    let rows_from = records_from + 3 * applicants + listed;
+    fill_seats(bytes, workshops, seats);
+    fill_lists(bytes, records_from, applicants, lots, starts, entries);
+    fill_rows(
+        bytes,
+        rows_from + 2,
+        rows,
+        workshops,
+        row_starts,
+        row_applicants,
+        row_points,
+    );
+    Ok(sizes)
 }
