@@ -6,5 +6,6 @@ pub mod Firsts
 pub mod Fronts
 pub mod Lists
 pub mod Puts
+pub mod Rounds
 pub mod Rows
 pub mod Sheets

@@ -4,6 +4,7 @@ mod fill;
 mod judge;
 mod tables;
 mod view;
+mod write;
 
 pub use fill::read;
 pub use judge::MOST_APPLICANTS;
