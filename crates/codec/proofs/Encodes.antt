@@ -1,0 +1,57 @@
+-- The parts of a round that is written: how long they are, that they stay within the tables, and how the writers' parts join.
+use mathlib.Core.Path.{_≡_, refl, sym, ap, _∙_}
+use mathlib.Core.List.{List, [], _∷_, _++_}
+use Prim.Native.Nat.{ℕ, _+_, _-_, _*_, _≤_, _<_}
+use native.Mathlib.Omega.{arith}
+use lib.ListN.{length, getD, set}
+use Rattle.layout.specs.Slices.{table, flat}
+use Rattle.layout.specs.Tables.{Tables, Proper, applicants, workshops, rows, list-length, list-at}
+use Rattle.layout.specs.Encode.{two-bytes, record-bytes, row-bytes, sheet-bytes}
+use Rattle.layout.proofs.Flats.{flat-more, length-flat}
+use Rattle.layout.proofs.OfProper.{starts-within, row-starts-within, length-list-at}
+use Rattle.codec.specs.Puts.{put}
+use Rattle.codec.proofs.Puts.{put-more, set-is-put, length-put}
+
+module _ (t : Tables) (p : Proper t) where
+  pub list-within : (a : ℕ) → a < applicants t → getD (t .starts) a 0 + list-length t a ≤ length (t .entries)
+  list-within a l = omega (arith, p .started .2 a l, starts-within t p (a + 1) (omega arith))
+
+  pub entries-small : (j : ℕ) → j < length (t .entries) → getD (t .entries) j 0 < 256
+  entries-small j l = omega (arith, p .named j l, p .limited .2)
+
+  -- where record a and the rows of workshop w begin
+  pub length-records : (a : ℕ) → a ≤ applicants t → length (flat (record-bytes t) a) ≡ 3 * a + getD (t .starts) a 0
+  length-records a l =
+      length-flat (record-bytes t) (λ (k : ℕ). 3 * k + getD (t .starts) k 0) a (omega (arith, p .started .1))
+      (λ k h. omega (arith, p .started .2 k (omega arith), length-list-at t p k (omega arith)))
+
+  pub record-room : (a : ℕ) → a < applicants t → 3 * a + getD (t .starts) a 0 + 3 + list-length t a ≤ 3 * applicants t + length (t .entries)
+  record-room a l = omega (arith, list-within a l)
+
+  pub length-rows : (w «from» n : ℕ) → length (flat (λ (k : ℕ). row-bytes t w («from» + k)) n) ≡ 5 * n
+  length-rows w «from» n = length-flat (λ (k : ℕ). row-bytes t w («from» + k)) (λ (k : ℕ). 5 * k) n refl (λ k _. omega arith)
+
+  pub length-sheets : (w : ℕ) → w ≤ workshops t → length (flat (sheet-bytes t) w) ≡ 5 * getD (t .row-starts) w 0
+  length-sheets w l =
+      length-flat (sheet-bytes t) (λ (k : ℕ). 5 * getD (t .row-starts) k 0) w (omega (arith, p .sheeted .1))
+      (λ k h. omega (arith, p .sheeted .2 k (omega arith), length-rows k (getD (t .row-starts) k 0) (getD (t .row-starts) (k + 1) 0 - getD (t .row-starts) k 0)))
+
+-- a word, a byte and a list
+pub record-put : (at x count : ℕ) (ys o o₁ o₂ : List ℕ) → at + 3 ≤ length o → o₁ ≡ put at (two-bytes x) o → o₂ ≡ put (at + 3) ys (set o₁ (at + 2) count) →
+    o₂ ≡ put at (two-bytes x ++ (count ∷ ys)) o
+record-put at x count ys o o₁ o₂ l h g =
+    let room : at + 2 < length o₁ = rw h (omega (arith, length-put at (two-bytes x) o (omega arith))) in
+    let counted = put-more at (at + 2) (two-bytes x) (count ∷ []) o₁ (set o₁ (at + 2) count) o (omega arith) refl h (set-is-put (at + 2) count o₁ room) in
+    put-more at (at + 3) (two-bytes x ++ (count ∷ [])) ys (set o₁ (at + 2) count) o₂ o (omega arith) refl counted g
+
+-- a byte and two words
+pub row-put : (at w x y : ℕ) (o o₁ o₂ : List ℕ) → at + 5 ≤ length o → o₁ ≡ put (at + 1) (two-bytes x) (set o at w) → o₂ ≡ put (at + 3) (two-bytes y) o₁ →
+    o₂ ≡ put at (w ∷ (two-bytes x ++ two-bytes y)) o
+row-put at w x y o o₁ o₂ l h g =
+    let named = put-more at (at + 1) (w ∷ []) (two-bytes x) (set o at w) o₁ o (omega arith) refl (set-is-put at w o (omega arith)) h in
+    put-more at (at + 3) (w ∷ two-bytes x) (two-bytes y) o₁ o₂ o (omega arith) refl named g
+
+-- one of many parts more
+pub put-flat-more : (f : ℕ → List ℕ) (at i n : ℕ) (s z old : List ℕ) → at ≤ length old → n ≡ at + length (flat f i) → s ≡ put at (flat f i) old →
+    z ≡ put n (f i) s → z ≡ put at (flat f (i + 1)) old
+put-flat-more f at i n s z old l e h g = put-more at n (flat f i) (f i) s z old l e h g ∙ ap (λ (y : List ℕ). put at y old) (sym (flat-more f i))
