@@ -31,10 +31,19 @@ module _ (t : Tables) (p : Proper t) where
   pub length-rows : (w «from» n : ℕ) → length (flat (λ (k : ℕ). row-bytes t w («from» + k)) n) ≡ 5 * n
   length-rows w «from» n = length-flat (λ (k : ℕ). row-bytes t w («from» + k)) (λ (k : ℕ). 5 * k) n refl (λ k _. omega arith)
 
+  pub length-sheet : (w : ℕ) → length (sheet-bytes t w) ≡ 5 * (getD (t .row-starts) (w + 1) 0 - getD (t .row-starts) w 0)
+  length-sheet w = length-rows w (getD (t .row-starts) w 0) (getD (t .row-starts) (w + 1) 0 - getD (t .row-starts) w 0)
+
+  pub row-in-sheet : (w k : ℕ) → w < workshops t → k < getD (t .row-starts) (w + 1) 0 - getD (t .row-starts) w 0 → getD (t .row-starts) w 0 + k < rows t
+  row-in-sheet w k l h = omega (arith, row-starts-within t p (w + 1) (omega arith))
+
+  pub sheet-room : (w : ℕ) → w < workshops t → 5 * getD (t .row-starts) w 0 + length (sheet-bytes t w) ≤ 5 * rows t
+  sheet-room w l = omega (arith, length-sheet w, p .sheeted .2 w l, row-starts-within t p (w + 1) (omega arith))
+
   pub length-sheets : (w : ℕ) → w ≤ workshops t → length (flat (sheet-bytes t) w) ≡ 5 * getD (t .row-starts) w 0
   length-sheets w l =
       length-flat (sheet-bytes t) (λ (k : ℕ). 5 * getD (t .row-starts) k 0) w (omega (arith, p .sheeted .1))
-      (λ k h. omega (arith, p .sheeted .2 k (omega arith), length-rows k (getD (t .row-starts) k 0) (getD (t .row-starts) (k + 1) 0 - getD (t .row-starts) k 0)))
+      (λ k h. omega (arith, p .sheeted .2 k (omega arith), length-sheet k))
 
 -- a word, a byte and a list
 pub record-put : (at x count : ℕ) (ys o o₁ o₂ : List ℕ) → at + 3 ≤ length o → o₁ ≡ put at (two-bytes x) o → o₂ ≡ put (at + 3) ys (set o₁ (at + 2) count) →
