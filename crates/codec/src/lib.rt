@@ -2,9 +2,9 @@
 mod bytes;
 mod fill;
 mod judge;
+mod output;
 mod tables;
 mod view;
-mod write;
 
 pub use fill::read;
 pub use judge::MOST_APPLICANTS;
@@ -13,4 +13,5 @@ pub use judge::MOST_PLACES;
 pub use judge::MOST_ROWS;
 pub use judge::MOST_WORKSHOPS;
 pub use judge::check;
+pub use output::write;
 pub use tables::Round;

@@ -8,7 +8,7 @@ use Rattle.codec.specs.Rounds.{tables-of}
 use Rattle.codec.proofs.Encodes.{length-rows, length-sheet, row-in-sheet, put-flat-more}
 use Rattle.codec.proofs.Puts.{put-none}
 use Rattle.codec.proofs.Rounds.{proper-round}
-use Rattle.codec.proofs.write.write_sheet.Needs as need
+use Rattle.codec.proofs.output.write_sheet.Needs as need
 
 pub loop-k-holds : need.loop-k-holds
 unfolding flat

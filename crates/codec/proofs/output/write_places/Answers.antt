@@ -3,7 +3,7 @@ use native.Mathlib.Omega.{arith}
 use Rattle.layout.specs.Tables.{places-at}
 use Rattle.codec.specs.Rounds.{tables-of}
 use Rattle.codec.proofs.Puts.{put-none, put-table-more, put-table-end}
-use Rattle.codec.proofs.write.write_places.Needs as need
+use Rattle.codec.proofs.output.write_places.Needs as need
 
 pub loop-w-holds : need.loop-w-holds
 loop-w-holds c = sym (put-none 4 (c .args .out .now))

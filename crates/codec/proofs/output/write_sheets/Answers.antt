@@ -8,7 +8,7 @@ use Rattle.codec.specs.Rounds.{tables-of}
 use Rattle.codec.proofs.Encodes.{length-sheets, sheet-room, put-flat-more}
 use Rattle.codec.proofs.Puts.{put-none}
 use Rattle.codec.proofs.Rounds.{proper-round}
-use Rattle.codec.proofs.write.write_sheets.Needs as need
+use Rattle.codec.proofs.output.write_sheets.Needs as need
 
 pub loop-w-holds : need.loop-w-holds
 unfolding flat

@@ -5,7 +5,7 @@ use native.Mathlib.Omega.{arith}
 use lib.ListN.{length, take, drop, getD}
 use Rattle.std.proofs.shelf.Lists.{length-take-le, length-drop}
 use Rattle.codec.proofs.Puts.{put-none, put-taken-more}
-use Rattle.codec.proofs.write.put_list.Needs as need
+use Rattle.codec.proofs.output.put_list.Needs as need
 
 pub loop-j-holds : need.loop-j-holds
 loop-j-holds c = sym (put-none (c .args .at) (c .args .out .now))

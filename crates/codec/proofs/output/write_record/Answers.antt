@@ -3,7 +3,7 @@ use Rattle.std.proofs.shelf.Lists.{length-set}
 use Rattle.codec.specs.Rounds.{tables-of}
 use Rattle.codec.proofs.Encodes.{list-within, entries-small, record-put}
 use Rattle.codec.proofs.Rounds.{proper-round}
-use Rattle.codec.proofs.write.write_record.Needs as need
+use Rattle.codec.proofs.output.write_record.Needs as need
 
 pub put-list-requires : need.put-list-requires
 put-list-requires c κs =

@@ -8,7 +8,7 @@ use Rattle.codec.specs.Rounds.{tables-of}
 use Rattle.codec.proofs.Encodes.{length-records, record-room, put-flat-more}
 use Rattle.codec.proofs.Puts.{put-none}
 use Rattle.codec.proofs.Rounds.{proper-round}
-use Rattle.codec.proofs.write.write_records.Needs as need
+use Rattle.codec.proofs.output.write_records.Needs as need
 
 pub loop-a-holds : need.loop-a-holds
 unfolding flat

@@ -2,14 +2,21 @@
 ghost use mathlib.Core.Path.{_≡_};
 ghost use mathlib.Core.List.{_∷_, _++_};
 ghost use Prim.Native.Nat.{ℕ, _+_, _*_, _≤_, _<_};
+ghost use lib.Dec.{ltb};
 ghost use lib.ListN.{length, getD, take, drop};
-ghost use Rattle.layout.specs.Slices.{table, flat};
+ghost use Rattle.layout.specs.Slices.{table, flat, laid, outcome};
+ghost use Rattle.layout.specs.Bytes.{refuse, decode};
 ghost use Rattle.layout.specs.Tables.{applicants as applicants-of, workshops as workshops-of, rows as rows-of, places-at, list-length};
-ghost use Rattle.layout.specs.Encode.{two-bytes, record-bytes, sheet-bytes};
+ghost use Rattle.layout.specs.Encode.{two-bytes, record-bytes, sheet-bytes, encode};
+ghost use Rattle.layout.specs.declared.Refusal.the-variants.{NoRoom};
+ghost use Rattle.layout.specs.declared.Lent.the-variants.{RoundTables};
+ghost use Rattle.std.specs.declared.result.Result.the-variants.{Ok};
 ghost use Rattle.codec.specs.Puts.{put};
 ghost use Rattle.codec.specs.Rounds.{tables-of};
-use crate::tables::Round;
 use crate::judge::PLACES_FROM;
+use crate::tables::Round;
+use layout::Lent;
+use layout::Refusal;
 
 // A number of two bytes, the low one first.
 fn put_word(out: &mut [u8], at: usize, x: u16)
@@ -84,7 +91,13 @@ fn write_sheet(round: &Round, w: usize, out: &mut [u8], at: usize)
     let from = round.row_starts[w] as usize;
     let count = round.row_starts[w + 1] as usize - from;
     for k in 0..count {
-        write_row(out, at + 5 * k, w as u8, round.row_applicants[from + k], round.row_points[from + k]);
+        write_row(
+            out,
+            at + 5 * k,
+            w as u8,
+            round.row_applicants[from + k],
+            round.row_points[from + k],
+        );
     }
 }
 
@@ -96,4 +109,28 @@ fn write_sheets(round: &Round, out: &mut [u8], at: usize)
     for w in 0..round.workshops() {
         write_sheet(round, w, out, at + 5 * round.row_starts[w] as usize);
     }
+}
+
+// The bytes of the round, laid over the front of `out`, and how many they are. Where `out` is too short it stays as it was. What is
+// written reads back as the same round.
+pub fn write(round: &Round, out: &mut [u8]) -> Result<usize, Refusal>
+    ensures answer { λ r. ⌜ r ≡ outcome (refuse (ltb (length (now (out .entry))) (length (encode (tables-of (now (round .entry)))))) (NoRoom RoundTables)) (length (encode (tables-of (now (round .entry))))) ⌝ }
+    ensures written { λ r. ⌜ now (out .exit) ≡ laid r (encode (tables-of (now (round .entry)))) (now (out .entry)) ⌝ }
+    ensures back { λ _. ⌜ decode (encode (tables-of (now (round .entry)))) ≡ Ok (tables-of (now (round .entry))) ⌝ }
+{
+    let applicants = round.applicants();
+    let workshops = round.workshops();
+    let rows = round.row_applicants.len();
+    let rows_from = PLACES_FROM + workshops + 3 * applicants + round.entries.len();
+    let size = rows_from + 2 + 5 * rows;
+    if out.len() < size {
+        return Err(Refusal::NoRoom(Lent::RoundTables));
+    }
+    put_word(out, 0, applicants as u16);
+    put_word(out, 2, workshops as u16);
+    write_places(round, out);
+    write_records(round, out, PLACES_FROM + workshops);
+    put_word(out, rows_from, rows as u16);
+    write_sheets(round, out, rows_from + 2);
+    Ok(size)
 }
