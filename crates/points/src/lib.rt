@@ -5,7 +5,8 @@ ghost use Rattle.round.specs.ByPoints.{worth-of};
 ghost use Rattle.codec.specs.Rounds.{tables-of};
 ghost use Rattle.points.specs.Standing.{points-of-row, lot-of-row, row-worth};
 use codec::Round;
-use layout::{Lot, Points};
+use layout::Lot;
+use layout::Points;
 
 // Of two applicants at a workshop the one with more points goes ahead, and with equal points the one with the lower lot. Nobody goes
 // ahead without points.
@@ -60,5 +61,10 @@ pub fn row_ahead(round: &Round, row: u32, other: u32) -> bool
     if points.0 != other_points.0 {
         return points.0 > other_points.0;
     }
-    goes_ahead(points, lot_of(round, row), other_points, lot_of(round, other))
+    goes_ahead(
+        points,
+        lot_of(round, row),
+        other_points,
+        lot_of(round, other),
+    )
 }
