@@ -7,11 +7,12 @@ use Prim.Native.Nat.{ℕ, zero, suc, _+_, _≤_, _<_, min}
 use native.Mathlib.Omega.{arith}
 use lib.Dec.{ltb, eqb}
 use lib.ListN.{length, take}
-use Rattle.std.proofs.shelf.Tests.{cases-bool, cases-lt, cases-eq, ne-eqb, cond-false, le-ltb, lt-ltb}
+use Rattle.std.proofs.shelf.Tests.{cases-lt, cond-true, and-from, and-parts, cases-eq, ne-eqb, cond-false, le-ltb, lt-ltb}
 use Rattle.std.proofs.shelf.Ways.{tells}
 use Rattle.layout.specs.Tables.{has}
 use Rattle.bench.specs.Row.{after, out, leads, taken-in, last-seat, left-out}
 use Rattle.bench.specs.Best.{number, above, Best-first}
+use Rattle.bench.proofs.Shift.{cond-same, leads-false}
 use Rattle.bench.proofs.Numbers.{has-here, has-there, has-cases, number-le, number-none, has-number, number-has, number-between}
 
 module _ (v : ℕ → ℕ) where
@@ -109,28 +110,73 @@ module _ (v : ℕ → ℕ) where
   after-head : (y : ℕ) (ys : List ℕ) → Best-first v (y ∷ ys) → after v y ys ≡ take (length ys) (y ∷ ys)
   unfolding after Best-first
   after-head y [] sorted = refl
-  after-head y (z ∷ zs) sorted = ?
+  after-head y (z ∷ zs) sorted =
+      let rest = after-head z zs (sorted .1) in
+      elim (sorted .0 z (has-here z zs)) [
+        inl l ↦ (let here = cond-true (ltb (v z) (v y)) (y ∷ after v z zs) (z ∷ after v y zs) (lt-ltb (v z) (v y) l) in cc)
+      | inr e ↦
+          (let level = le-ltb (v z) (v y) (omega (arith, ap v e)) in
+          let here = cond-false (ltb (v z) (v y)) (y ∷ after v z zs) (z ∷ after v y zs) level in
+          cc)
+      ]
 
   out-head : (y : ℕ) (ys : List ℕ) → Best-first v (y ∷ ys) → out v y ys ≡ last-seat y ys
   unfolding out last-seat Best-first
   out-head y [] sorted = refl
-  out-head y (z ∷ zs) sorted = ?
+  out-head y (z ∷ zs) sorted =
+      let rest = out-head z zs (sorted .1) in
+      elim (sorted .0 z (has-here z zs)) [
+        inl l ↦ (let here = cond-true (ltb (v z) (v y)) (out v z zs) (out v y zs) (lt-ltb (v z) (v y) l) in cc)
+      | inr e ↦
+          (let level = le-ltb (v z) (v y) (omega (arith, ap v e)) in
+          let here = cond-false (ltb (v z) (v y)) (out v z zs) (out v y zs) level in
+          cc)
+      ]
 
-  leads-head : (x y : ℕ) (ys : List ℕ) → Best-first v (y ∷ ys) → v y < v x → leads v x ys ≡ true
-  unfolding leads Best-first
-  leads-head x y ys sorted h = ?
+  leads-from : (x : ℕ) (b : List ℕ) → ((z : ℕ) → has z b ≡ true → v z < v x) → leads v x b ≡ true
+  unfolding leads
+  leads-from x [] behind = refl
+  leads-from x (y ∷ ys) behind = and-from _ _ (lt-ltb (v y) (v x) (behind y (has-here y ys))) (leads-from x ys (λ z k. behind z (has-there z y ys k)))
 
-  last-behind : (x y : ℕ) (ys : List ℕ) → leads v x (y ∷ ys) ≡ true → v (last-seat y ys) < v x
+  leads-head : (x y : ℕ) (ys : List ℕ) → Best-first v (y ∷ ys) → v y < v x → leads v x (y ∷ ys) ≡ true
+  unfolding Best-first
+  leads-head x y ys sorted h =
+      leads-from x (y ∷ ys)
+      (λ z k.
+          elim (has-cases z y ys k) [
+            inl e ↦ omega (arith, ap v e)
+          | inr m ↦ (elim (sorted .0 z m) [ inl l ↦ omega arith | inr e ↦ omega (arith, ap v e) ])
+          ])
+
+  last-behind : (x y : ℕ) (ys : List ℕ) → leads v x (y ∷ ys) ≡ true → ltb (v (last-seat y ys)) (v x) ≡ true
   unfolding leads last-seat
-  last-behind x y [] h = ?
-  last-behind x y (z ∷ zs) h = ?
+  last-behind x y [] h = and-parts _ _ h .0
+  last-behind x y (z ∷ zs) h = last-behind x z zs (and-parts (ltb (v y) (v x)) _ h .1)
 
   pub taken-in-after : (x : ℕ) (b : List ℕ) → Best-first v b → taken-in v x b ≡ after v x b
   unfolding taken-in after Best-first
   taken-in-after x [] sorted = refl
-  taken-in-after x (y ∷ ys) sorted = ?
+  taken-in-after x (y ∷ ys) sorted =
+      elim (cases-lt (v y) (v x)) [
+        inl h ↦
+          cond-true _ _ _ (leads-head x y ys sorted h)
+          ∙ ap (λ (zs : List ℕ). x ∷ zs) (sym (after-head y ys sorted))
+          ∙ sym (cond-true _ _ _ (lt-ltb (v y) (v x) h))
+      | inr h ↦
+          cond-false _ _ _ (leads-false v x 0 0 (y ∷ ys) (omega arith) (le-ltb (v y) (v x) h))
+          ∙ ap (λ (zs : List ℕ). y ∷ zs) (taken-in-after x ys (sorted .1))
+          ∙ sym (cond-false _ _ _ (le-ltb (v y) (v x) h))
+      ]
 
   pub left-out-out : (x : ℕ) (b : List ℕ) → Best-first v b → left-out v x b ≡ out v x b
   unfolding left-out out last-seat Best-first
-  left-out-out x [] sorted = ?
-  left-out-out x (y ∷ ys) sorted = ?
+  left-out-out x [] sorted = cond-same (ltb (v x) (v x)) x
+  left-out-out x (y ∷ []) sorted = refl
+  left-out-out x (y ∷ (z ∷ zs)) sorted =
+      elim (cases-lt (v y) (v x)) [
+        inl h ↦
+          cond-true _ _ _ (last-behind x y (z ∷ zs) (leads-head x y (z ∷ zs) sorted h))
+          ∙ sym (out-head y (z ∷ zs) sorted)
+          ∙ sym (cond-true _ _ _ (lt-ltb (v y) (v x) h))
+      | inr h ↦ left-out-out x (z ∷ zs) (sorted .1) ∙ sym (cond-false _ _ _ (le-ltb (v y) (v x) h))
+      ]

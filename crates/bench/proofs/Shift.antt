@@ -49,7 +49,7 @@ set-shifted zero d (y ∷ []) h = refl
 set-shifted zero d (y ∷ (z ∷ zs)) h = refl
 set-shifted (suc i) d (y ∷ ys) h = ap (λ (zs : List ℕ). y ∷ zs) (set-shifted i d ys (omega arith))
 
-cond-same : (b : Bool) (x : ℕ) → cond b x x ≡ x
+pub cond-same : (b : Bool) (x : ℕ) → cond b x x ≡ x
 cond-same true x = refl
 cond-same false x = refl
 
