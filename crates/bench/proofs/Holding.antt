@@ -14,10 +14,10 @@ use Rattle.std.proofs.shelf.Tests.{cases-eq, cases-lt, eqb-true, ne-eqb, false�
 use Rattle.std.proofs.shelf.Ways.{tells}
 use Rattle.layout.specs.Tables.{has}
 use Rattle.points.specs.Standing.{no-row}
-use Rattle.bench.specs.Row.{after, out, after-all, empty-bench}
+use Rattle.bench.specs.Row.{after, out, taken-in, after-all, empty-bench}
 use Rattle.bench.specs.Best.{number, above, Best-first, Told-apart, Best-of}
 use Rattle.bench.proofs.Numbers.{has-here, has-there, has-cases, number-less, number-none, number-more, number-between, number-middle, has-same, has-right, has-number, number-has}
-use Rattle.bench.proofs.Laws.{length-after, number-after, has-after, after-worthless, above-head, above-after, sorted-after}
+use Rattle.bench.proofs.Laws.{length-after, number-after, has-after, after-worthless, above-head, above-after, sorted-after, taken-in-after}
 
 pub has-empty : (z k : ℕ) → has z (empty-bench k) ≡ true → z ≡ no-row
 unfolding empty-bench has
@@ -123,6 +123,10 @@ module _ (v : ℕ → ℕ) (none : v no-row ≡ 0) where
 
       told : 0 < v x → (y z : ℕ) → has y (x ∷ b) ≡ true → has z (x ∷ b) ≡ true → v y ≡ v z → y ≡ z
       told pos y z hy hz = known-same (x ∷ xs) apart y z (known pos y hy) (known pos z hz)
+
+  -- and so it is after an ask as the code does it
+  pub best-of-taken-in : (x : ℕ) (b c : List ℕ) → c ≡ taken-in v x b → (xs : List ℕ) → Told-apart v (x ∷ xs) → Best-of v xs b → Best-of v (x ∷ xs) c
+  best-of-taken-in x b c e xs apart best = rw (e ∙ taken-in-after v x b (best .sorted)) (best-of-after x xs b apart best)
 
   -- who has asked matters, and not in which order
   pub best-of-same : (xs ys b : List ℕ) → ((p : ℕ → Bool) → number p xs ≡ number p ys) → Best-of v xs b → Best-of v ys b
