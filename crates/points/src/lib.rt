@@ -4,6 +4,10 @@ ghost use lib.Dec.{ltb};
 ghost use Rattle.round.specs.ByPoints.{worth-of};
 ghost use Rattle.codec.specs.Rounds.{tables-of};
 ghost use Rattle.points.specs.Standing.{points-of-row, lot-of-row, row-worth};
+mod merge;
+
+pub use merge::find_rows;
+
 use codec::Round;
 use layout::Lot;
 use layout::Points;
