@@ -11,16 +11,7 @@ use Rattle.std.proofs.shelf.Tests.{cases-eq, cases-lt, cases-order, cond-both, 
 use Rattle.layout.specs.Tables.{Tables, Proper, workshops, rows}
 use Rattle.layout.proofs.Offsets.{rises}
 use Rattle.points.specs.Standing.{row-from, row-of, no-row}
-
--- the first row of workshop w, and the end of its rows
-abbrev pub from-row : Tables → ℕ → ℕ
-from-row t w = getD (t .row-starts) w 0
-
-abbrev pub to-row : Tables → ℕ → ℕ
-to-row t w = getD (t .row-starts) (w + 1) 0
-
-abbrev pub applicant-of : Tables → ℕ → ℕ
-applicant-of t i = getD (t .row-applicants) i 0
+use Rattle.points.specs.Cursors.{from-row, to-row, applicant-of}
 
 module _ (t : Tables) (a : ℕ) where
   row-from-skip : (d i k : ℕ) → d ≤ k → ((j : ℕ) → i ≤ j → j < i + d → applicant-of t j ≢ a) → row-from t a i k ≡ row-from t a (i + d) (k - d)
