@@ -26,7 +26,7 @@ pub over-more : (xs old s : List ℕ) (k y : ℕ) → s ≡ over xs old → leng
 over-more xs old s k y e l h =
     let here : k < length old = omega (arith, ap length e, length-append xs (drop (length xs) old), length-drop (length xs) old) in
     let whole : s ≡ xs ++ (getD old k 0 ∷ drop (k + 1) old) =
-        e ∙ ap (λ n. xs ++ drop n old) l ∙ ap (λ (zs : List ℕ). xs ++ zs) (drop-more old k 0 here)
+    e ∙ ap (λ n. xs ++ drop n old) l ∙ ap (λ (zs : List ℕ). xs ++ zs) (drop-more old k 0 here)
     in
     let one : length (xs ++ y ∷ []) ≡ k + 1 = omega (arith, length-append xs (y ∷ [])) in
     ap (λ (zs : List ℕ). set zs k y) whole
@@ -47,10 +47,10 @@ module _ (t : Tables) (good : Proper t) where
       ((j : ℕ) → from-row t w + getD ps w 0 ≤ j → j < i → applicant-of t j < a) → Passed t a (set ps w (i - from-row t w))
   passed-set a ps passed w i h len l u more v hv =
       elim (cases-eq v w) [
-        inl e ↦
-          (let same = getD-set-same ps w (i - from-row t w) 0 (omega (arith, good .limited .2)) in
-          rw e (rw same (omega arith, λ j lj uj. before j lj (omega arith))))
-      | inr ne ↦ (let other = getD-set-other ps w v (i - from-row t w) 0 ne in rw other (passed v hv))
+        | inl e ↦
+            (let same = getD-set-same ps w (i - from-row t w) 0 (omega (arith, good .limited .2)) in
+            rw e (rw same (omega arith, λ j lj uj. before j lj (omega arith))))
+        | inr ne ↦ (let other = getD-set-other ps w v (i - from-row t w) 0 ne in rw other (passed v hv))
       ]
     where
       before : (j : ℕ) → from-row t w ≤ j → j < i → applicant-of t j < a
@@ -95,9 +95,9 @@ module _ (t : Tables) (good : Proper t) where
       let one : k + 1 - s ≡ k - s + 1 = omega arith in
       let at : s + (k - s) ≡ k = omega arith in
       let entry : getD (list-at t a) (k - s) 0 ≡ getD (t .entries) k 0 =
-          getD-take (list-length t a) (drop s (t .entries)) (k - s) 0 (omega arith)
-          ∙ getD-drop s (t .entries) (k - s) 0
-          ∙ ap (λ n. getD (t .entries) n 0) at
+      getD-take (list-length t a) (drop s (t .entries)) (k - s) 0 (omega arith)
+      ∙ getD-drop s (t .entries) (k - s) 0
+      ∙ ap (λ n. getD (t .entries) n 0) at
       in
       ap (λ n. flat (rows-of-list t) a ++ table f n) one
       ∙ ap (λ (xs : List ℕ). flat (rows-of-list t) a ++ xs) (table-more f (k - s))
@@ -109,3 +109,6 @@ module _ (t : Tables) (good : Proper t) where
 
   pub starts-le : (a : ℕ) → a < applicants t → getD (t .starts) (a + 1) 0 ≤ length (t .entries)
   starts-le a h = omega (arith, rises (λ k. getD (t .starts) k 0) (applicants t) (good .started .2) (a + 1) (omega arith), good .started .4)
+
+  pub entry-within : (a k : ℕ) → a < applicants t → k < getD (t .starts) (a + 1) 0 → k < length (t .entries)
+  entry-within a k h u = omega (arith, starts-le a h)

@@ -65,8 +65,8 @@ module _ (t : Tables) (a : ℕ) where
   unfolding row-of
   row-of-cases w =
       elim (row-from-cases (to-row t w - from-row t w) (from-row t w)) [
-        inl n ↦ inl n
-      | inr s ↦ inr (s .0, omega (arith, s .0, s .1), s .2)
+        | inl n ↦ inl n
+        | inr s ↦ inr (s .0, omega (arith, s .0, s .1), s .2)
       ]
 
 module _ (t : Tables) (good : Proper t) where
@@ -91,26 +91,26 @@ module _ (t : Tables) (good : Proper t) where
       (i < to-row t w → a ≤ applicant-of t i) → row-of t w a ≡ cond (ltb i (to-row t w) && eqb (applicant-of t i) a) i no-row
   row-of-first w a i h l u before here =
       elim (cases-lt i (to-row t w)) [
-        inl k ↦
-          (elim (cases-eq (applicant-of t i) a) [
-            inl e ↦
-              row-of-at t a w i l k e (λ j lj uj. λ f. omega (arith, before j lj uj))
-              ∙ sym (cond-true _ _ _ (and-from _ _ (lt-ltb i (to-row t w) k) (eq-eqb (applicant-of t i) a e)))
-          | inr ne ↦
-              row-of-none t a w (λ j lj uj. after-first j lj uj k ne)
-              ∙ sym (cond-false _ _ _ (and-right _ _ (ne-eqb (applicant-of t i) a ne)))
-          ])
-      | inr k ↦
-          row-of-none t a w (λ j lj uj. λ f. omega (arith, before j lj (omega arith)))
-          ∙ sym (cond-false _ _ _ (and-left _ _ (le-ltb i (to-row t w) k)))
+        | inl k ↦
+            (elim (cases-eq (applicant-of t i) a) [
+              | inl e ↦
+                  row-of-at t a w i l k e (λ j lj uj. λ f. omega (arith, before j lj uj))
+                  ∙ sym (cond-true _ _ _ (and-from _ _ (lt-ltb i (to-row t w) k) (eq-eqb (applicant-of t i) a e)))
+              | inr ne ↦
+                  row-of-none t a w (λ j lj uj. after-first j lj uj k ne)
+                  ∙ sym (cond-false _ _ _ (and-right _ _ (ne-eqb (applicant-of t i) a ne)))
+            ])
+        | inr k ↦
+            row-of-none t a w (λ j lj uj. λ f. omega (arith, before j lj (omega arith)))
+            ∙ sym (cond-false _ _ _ (and-left _ _ (le-ltb i (to-row t w) k)))
       ]
     where
       after-first : (j : ℕ) → from-row t w ≤ j → j < to-row t w → i < to-row t w → (applicant-of t i ≡ a → ⊥) → applicant-of t j ≢ a
       after-first j lj uj k ne f =
           elim (cases-order i j) [
-            inl e ↦ ne (ap (applicant-of t) e ∙ f)
-          | inr (inl m) ↦ omega (arith, rows-rise w i j h l m uj, here k)
-          | inr (inr m) ↦ omega (arith, before j lj m)
+            | inl e ↦ ne (ap (applicant-of t) e ∙ f)
+            | inr (inl m) ↦ omega (arith, rows-rise w i j h l m uj, here k)
+            | inr (inr m) ↦ omega (arith, before j lj m)
           ]
 
   -- an applicant has one row at a workshop

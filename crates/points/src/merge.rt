@@ -14,7 +14,8 @@ ghost use Rattle.codec.specs.Rounds.{tables-of};
 ghost use Rattle.points.specs.Standing.{row-of, rows-found, no-row};
 ghost use Rattle.points.specs.Cursors.{to-row, applicant-of, Passed};
 use codec::Round;
-use layout::{Lent, Refusal};
+use layout::Lent;
+use layout::Refusal;
 
 // A cursor for each workshop that a round may have.
 const MOST_WORKSHOPS: usize = 256;

@@ -19,10 +19,10 @@ returns c =
     let good : Proper t = tables-proper (c .args .round .now) in
     record {
       row =
-        c .own-row .ensures
-        ∙ sym (row-found t good (c .args .applicant) (c .args .passed .now) (c .pre .before) (c .args .w) (c .next-row-row .result) (c .pre .workshop)
+          c .own-row .ensures
+          ∙ sym (row-found t good (c .args .applicant) (c .args .passed .now) (c .pre .before) (c .args .w) (c .next-row-row .result) (c .pre .workshop)
           (c .next-row-row .ensures .within .0) (c .next-row-row .ensures .within .1) (c .next-row-row .ensures .passed) (c .next-row-row .ensures .first));
       before =
-        passed-set t good (c .args .applicant) (c .args .passed .now) (c .pre .before) (c .args .w) (c .next-row-row .result) (c .pre .workshop) (c .pre .long)
-        (omega (arith, c .next-row-row .ensures .within .0)) (c .next-row-row .ensures .within .1) (c .next-row-row .ensures .passed);
+          passed-set t good (c .args .applicant) (c .args .passed .now) (c .pre .before) (c .args .w) (c .next-row-row .result) (c .pre .workshop) (c .pre .long)
+          (omega (arith, c .next-row-row .ensures .within .0)) (c .next-row-row .ensures .within .1) (c .next-row-row .ensures .passed);
     }

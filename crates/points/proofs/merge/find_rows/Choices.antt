@@ -19,4 +19,4 @@ abbrev pub Inv-loop-k : given.InvT-loop-k
 Inv-loop-k l =
     (length (l .passed) ≡ 256) × Passed (tables-of (l .round)) (l .applicant) (l .passed)
     × ((old : List ℕ) → l .entry .rows ≡ over (flat (rows-of-list (tables-of (l .round))) (l .applicant)) old →
-      l .rows ≡ over (found-to (tables-of (l .round)) (l .applicant) (l .k)) old)
+    l .rows ≡ over (found-to (tables-of (l .round)) (l .applicant) (l .k)) old)
