@@ -4,3 +4,4 @@ pub mod Numbers
 pub mod Laws
 pub mod Holding
 pub mod Orders
+pub mod Told

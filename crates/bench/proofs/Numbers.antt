@@ -7,7 +7,7 @@ use Prim.Native.Nat.{ℕ, zero, suc, _+_, _≤_, _<_}
 use native.Mathlib.Omega.{arith}
 use lib.Dec.{ltb, eqb}
 use lib.ListN.{length}
-use Rattle.std.proofs.shelf.Tests.{cases-bool, cases-lt, eq-eqb, or-cases, or-left, or-right, eqb-true, false≢true}
+use Rattle.std.proofs.shelf.Tests.{cases-bool, cases-lt, lt-ltb, le-ltb, eq-eqb, or-cases, or-left, or-right, eqb-true, false≢true}
 use Rattle.std.proofs.shelf.Ways.{tells}
 use Rattle.std.specs.Slices.{Shuffled}
 use Rattle.std.specs.shelf.Lists.{sumBy}
@@ -121,6 +121,13 @@ number-has x (y ∷ ys) h =
     elim (or-cases (eqb x y) (has x ys) h) [
       | inl k ↦ rw k (omega arith)
       | inr k ↦ omega (arith, number-has x ys k)
+    ]
+
+pub has-is : (x : ℕ) (xs : List ℕ) → has x xs ≡ ltb 0 (number (eqb x) xs)
+has-is x xs =
+    elim (cases-lt 0 (number (eqb x) xs)) [
+      | inl k ↦ has-number x xs k ∙ sym (lt-ltb 0 (number (eqb x) xs) k)
+      | inr k ↦ (elim (cases-bool (has x xs)) [ inl h ↦ absurd (omega (arith, number-has x xs h)) | inr h ↦ h ∙ sym (le-ltb 0 (number (eqb x) xs) k) ])
     ]
 
 -- lists with the same numbers, whatever the test, have the same members

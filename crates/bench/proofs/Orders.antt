@@ -59,6 +59,6 @@ module _ (v : ℕ → ℕ) (none : v no-row ≡ 0) (places : ℕ) where
       taken : Best-of v xs (after-all v xs (empty-bench places)) → (y : ℕ) → has y (after-all v xs (empty-bench places)) ≡ true → not (eqb y no-row) ≡ ltb 0 (v y)
       taken best y h =
           elim (cases-eq y no-row) [
-            inl e ↦ (let worthless = ap v e in grind (arith, tells, none))
-          | inr row ↦ (let worth = best .kept y row .0 h .1 in grind (arith, tells))
+            | inl e ↦ (let worthless = ap v e in grind (arith, tells, none))
+            | inr row ↦ (let worth = best .kept y row .0 h .1 in grind (arith, tells))
           ]
