@@ -9,11 +9,14 @@ ghost use Rattle.codec.specs.Rounds.{tables-of};
 ghost use Rattle.asking.specs.Ended.{no-room};
 ghost use Rattle.letters.specs.Letter.{head-bytes, entry-bytes, kind-of, cut-points, cut-lot};
 ghost use Rattle.letters.specs.Written.{entry-from, entries-from, letter-bytes, letter-length, letter-room, all-letters, all-length, letters-room};
-
 use crate::entry::Entry;
 use codec::Round;
-use cuts::{Cut, cut_of};
-use layout::{Lent, Lot, Points, Refusal};
+use cuts::Cut;
+use cuts::cut_of;
+use layout::Lent;
+use layout::Lot;
+use layout::Points;
+use layout::Refusal;
 use points::points_of;
 
 // How many bytes an applicant's letter has; 6, as of an empty list, for a number that is no applicant.
@@ -76,11 +79,22 @@ fn entry_of(round: &Round, rows: &[u32], benches: &[u32], k: usize) -> Entry
     let w = workshop as usize;
     let from = round.seats[w] as usize;
     let to = round.seats[w + 1] as usize;
-    Entry { workshop: workshop as u8, points: points_of(round, rows[k]), cut: cut_of(&benches[from..to], round) }
+    Entry {
+        workshop: workshop as u8,
+        points: points_of(round, rows[k]),
+        cut: cut_of(&benches[from..to], round),
+    }
 }
 
 // Lays the entries from start on over a part.
-fn put_entries(round: &Round, rows: &[u32], benches: &[u32], start: usize, count: usize, part: &mut [u8])
+fn put_entries(
+    round: &Round,
+    rows: &[u32],
+    benches: &[u32],
+    start: usize,
+    count: usize,
+    part: &mut [u8],
+)
     requires { ⌜ start + count ≤ length (now (now round .entries)) ⌝ }
     requires { ⌜ length (now (now round .entries)) ≤ length (now rows) ⌝ }
     requires { ⌜ getD (now (now round .seats)) (workshops (tables-of (now round))) 0 ≤ length (now benches) ⌝ }
@@ -88,6 +102,9 @@ fn put_entries(round: &Round, rows: &[u32], benches: &[u32], start: usize, count
     ensures { λ _. ⌜ now (part .exit) ≡ over (joined entry-bytes (entries-from (tables-of (now (round .entry))) (now (rows .entry)) (now (benches .entry)) start count)) (now (part .entry)) ⌝ }
 {
     for j in 0..count {
-        put_entry(entry_of(round, rows, benches, start + j), &mut part[8 * j..]);
+        put_entry(
+            entry_of(round, rows, benches, start + j),
+            &mut part[8 * j..],
+        );
     }
 }
