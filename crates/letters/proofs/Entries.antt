@@ -70,7 +70,7 @@ module _ (e : Entry) (rest : List ℕ) where
       let points = word-two-bytes (cut-points (e .cut)) in
       let lot = word-two-bytes (cut-lot (e .cut)) in
       elim (e .cut) as (λ c. Clean (entry-bytes (record { workshop = e .workshop; points = e .points; cut = c }) ++ rest)) [
-        Open ↦ record { there = omega arith; kind = omega arith; points = inr refl; lot = inr refl }
+        | Open ↦ record { there = omega arith; kind = omega arith; points = inr refl; lot = inr refl }
         | Shut ↦ record { there = omega arith; kind = omega arith; points = inr refl; lot = inr refl }
         | Full p l ↦ record { there = omega arith; kind = omega arith; points = inl refl; lot = inl refl }
       ]

@@ -4,3 +4,4 @@ pub mod Writing
 pub mod Entries
 pub mod Formed
 pub mod RoundTrip
+pub mod Judged

@@ -46,16 +46,16 @@ abbrev workshop-of : Entry → ℕ
 workshop-of e = e .workshop
 
 -- any entry
-abbrev blank : Entry
+abbrev pub blank : Entry
 blank = record { workshop = 0; points = record { 0 = 0 }; cut = Open }
 
 small-in : (part : List ℕ) → Bytes-only part → Clean part → Small-entry (entry-in part)
 small-in part small c = (
-      byte-small part small 0,
-      word-small part small 1,
-      rw (cut-points-cut-from (byte part 3) (word part 4) (word part 6) (c .kind) (c .points)) (word-small part small 4),
-      rw (cut-lot-cut-from (byte part 3) (word part 4) (word part 6) (c .kind) (c .lot)) (word-small part small 6),
-    )
+  byte-small part small 0,
+  word-small part small 1,
+  rw (cut-points-cut-from (byte part 3) (word part 4) (word part 6) (c .kind) (c .points)) (word-small part small 4),
+  rw (cut-lot-cut-from (byte part 3) (word part 4) (word part 6) (c .kind) (c .lot)) (word-small part small 6),
+)
 
 -- what is read without a fault is written as it was read
 module _ (b : List ℕ) (small : Bytes-only b) (f : Formed b) where
@@ -69,14 +69,14 @@ module _ (b : List ℕ) (small : Bytes-only b) (f : Formed b) where
       let count = length-table entry-of n in
       let body = joined-table entry-bytes entry-of n in
       let each : (j : ℕ) → j < n → drop (entry-at j) b ≡ entry-bytes (entry-of j) ++ drop (entry-at (j + 1)) b =
-          λ j l. part-is-entry (part-at b j) (bytes-from b (entry-at j) small) (f .listed j l .2)
-              ∙ ap (λ (z : List ℕ). entry-bytes (entry-of j) ++ z) (drop-drop 8 (entry-at j) b ∙ ap (λ (k : ℕ). drop k b) (omega arith))
+      λ j l. part-is-entry (part-at b j) (bytes-from b (entry-at j) small) (f .listed j l .2)
+      ∙ ap (λ (z : List ℕ). entry-bytes (entry-of j) ++ z) (drop-drop 8 (entry-at j) b ∙ ap (λ (k : ℕ). drop k b) (omega arith))
       in
       let entries = drop-is-flat (λ j. entry-bytes (entry-of j)) b entry-at n each in
       let whole = f .whole in
       let head = f .head in
       let place : drop (place-at b) b ≡ byte b (place-at b) ∷ [] =
-          drop-more b (place-at b) 0 (omega arith) ∙ ap (λ (z : List ℕ). byte b (place-at b) ∷ z) (drop-all (place-at b + 1) b (omega arith))
+      drop-more b (place-at b) 0 (omega arith) ∙ ap (λ (z : List ℕ). byte b (place-at b) ∷ z) (drop-all (place-at b + 1) b (omega arith))
       in
       let at-0 = drop-word b small 0 (word b 0) (omega arith) refl in
       let at-2 = drop-word b small 2 (word b 2) (omega arith) refl in
@@ -112,7 +112,7 @@ module _ (b : List ℕ) (small : Bytes-only b) (f : Formed b) where
 letter-same : (m : Letter) (applicant lot : ℕ) (entries : List Entry) (place : ℕ) →
     applicant ≡ m .applicant → lot ≡ m .lot → entries ≡ m .entries → place ≡ m .place →
     _≡_ {A = Letter} (record { applicant = applicant; lot = lot; entries = entries; place = place }) m
-letter-same m applicant lot entries place e f g h = cc
+letter-same m applicant lot entries place e f g h = rw (e, f, g, h)
 
 -- what is written is read without a fault as it was
 module _ (l : Letter) (good : Well-formed l) where

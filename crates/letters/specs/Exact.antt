@@ -18,8 +18,11 @@ use Rattle.letters.specs.declared.entry.Entry.{Entry}
 use Rattle.letters.specs.declared.check.Verdict.{Verdict}
 
 -- the first entry of a letter whose cut is reached with the own points there and the lot, or 255
+abbrev pub reached-with : ℕ → Entry → Bool
+reached-with lot e = reached (e .points) (record { 0 = lot }) (e .cut)
+
 abbrev pub reached-list : ℕ → List Entry → List Bool
-reached-list lot = map (λ (e : Entry). reached (e .points) (record { 0 = lot }) (e .cut))
+reached-list lot = map (reached-with lot)
 
 abbrev pub first-place : Letter → ℕ
 first-place l = first-reached (λ j. getD (reached-list (l .lot) (l .entries)) j false) (length (l .entries))
