@@ -3,3 +3,4 @@ pub mod Promise
 pub mod Market
 pub mod Laws
 pub mod ByPoints
+pub mod Office

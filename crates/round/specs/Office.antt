@@ -1,0 +1,53 @@
+-- What the office promises beyond the given statements, in the same words: of asking in any order, of the number of asks, and of
+-- any set of applicants that do not write their true lists.
+use mathlib.Core.Path.{_≡_}
+use mathlib.Core.Bool.{Bool, true, false}
+use mathlib.Core.Logic.{_⊎_}
+use mathlib.Core.List.{List, []}
+use Prim.Native.Nat.{ℕ, _+_, _≤_, _<_, min}
+use lib.ListN.{length, getD, replicate}
+use Rattle.round.specs.Places.{Round, asked, refused, steps, total, result}
+use Rattle.round.specs.Promise.{Proper, rank}
+use Rattle.round.specs.Market.{sum}
+
+-- the position of what an assignment gives, in each applicant's list
+unfoldable pub position-of : Round → (ℕ → ℕ) → ℕ → ℕ
+position-of r m a = rank (getD (r .lists) a []) (m a)
+
+-- the number of asks when everybody has come to its position: the entries that were asked, over all lists
+unfoldable pub asks-from : Round → List ℕ → ℕ
+asks-from r at = sum (λ a. min (getD at a 0 + 1) (length (getD (r .lists) a []))) (length (r .lists))
+
+-- the number of asks of a round
+unfoldable pub asks-of : Round → ℕ
+asks-of r = asks-from r (steps r (total (r .lists)))
+
+-- one after the other, in groups, or all together: some of those who are turned down ask the next of their lists
+pub record Goes-on (r : Round) (at to : List ℕ) : Type 0 where
+  pub long : length to ≡ length at
+  pub each : (a : ℕ) → a < length (r .lists) → (getD to a 0 ≡ getD at a 0) ⊎ ((refused r at a ≡ true) × (getD to a 0 ≡ getD at a 0 + 1))
+
+-- where asking in some order has come to, from everybody's first entry
+pub data Comes-to (r : Round) : List ℕ → Type 0 where
+  first : Comes-to r (replicate (length (r .lists)) 0)
+  next : (at to : List ℕ) → Comes-to r at → Goes-on r at to → Comes-to r to
+
+-- whatever the order: where nobody is turned down any more, everybody asks what the result gives it, and the asks were as many; never
+-- more than there are entries in all lists
+unfoldable pub Any-order : Type 0
+Any-order =
+    (r : Round) (at : List ℕ) → Proper r → Comes-to r at → ((a : ℕ) → a < length (r .lists) → refused r at a ≡ false) →
+    ((a : ℕ) → asked r at a ≡ result r a) × (asks-from r at ≡ asks-of r) × (asks-of r ≤ total (r .lists))
+
+-- the same workshops, other lists
+unfoldable pub with-lists : Round → List (List ℕ) → Round
+with-lists r ls = record { lists = ls; places = r .places; points = r .points }
+
+-- whatever set of applicants writes other lists than its true ones, not all of it get something dearer, by their true lists, than
+-- the true lists get them. r has the true lists, ls are those that are sent in
+unfoldable pub Not-all-gain : Type 0
+Not-all-gain =
+    (r : Round) (ls : List (List ℕ)) (liar : ℕ → Bool) → Proper r → Proper (with-lists r ls) → length ls ≡ length (r .lists) →
+    ((a : ℕ) → liar a ≡ false → getD ls a [] ≡ getD (r .lists) a []) → (b : ℕ) → b < length (r .lists) → liar b ≡ true →
+    ((a : ℕ) → a < length (r .lists) → liar a ≡ true → rank (getD (r .lists) a []) (result (with-lists r ls) a) < rank (getD (r .lists) a []) (result r a)) →
+    ⊥
