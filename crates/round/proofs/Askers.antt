@@ -1,13 +1,13 @@
 -- What asking, being kept and being turned down say as plain facts, and what the laws of a way of keeping give:
 -- a refusal stays, and whom nobody of them would miss can be left out.
-use mathlib.Core.Path.{_≡_, refl, sym, ap, _∙_}
-use mathlib.Core.Bool.{Bool, true, false, not, _&&_}
-use mathlib.Core.Logic.{_⊎_, inl, inr, _≢_}
+use mathlib.Core.Path.{_≡_, sym, _∙_}
+use mathlib.Core.Bool.{Bool, true, false}
+use mathlib.Core.Logic.{_⊎_, inl, inr}
 use Prim.Native.Nat.{ℕ, _+_, _≤_, _<_}
 use native.Mathlib.Omega.{arith}
 use Rattle.std.proofs.shelf.Ways.{tells, same-from-decides}
 use Rattle.std.proofs.shelf.Tests.{cases-bool, false≢true}
-use Rattle.round.specs.Market.{Wish, Market, Within, Way, Lawful, asked, here, turned, move, Moves, placed-at, held, joined-by, count}
+use Rattle.round.specs.Market.{Wish, Market, Within, Way, asked, here, turned, move}
 use Rattle.round.proofs.Count.{count-all}
 
 module _ (w : Wish) (s : ℕ → ℕ) (p a : ℕ) where
@@ -46,15 +46,19 @@ unfolding Within
 asked-more w s t p le a h = let i = asked-parts w s p a h in let l = le a in asked-from w t p a (omega arith) (i .1)
 
 module _ (k : Market) (s : ℕ → ℕ) (a : ℕ) where
-  pub turned-parts : turned k s a ≡ true → (s a < k .wish .len a) × (k .keeps (k .wish .entry a (s a)) (asked (k .wish) s (k .wish .entry a (s a))) a ≡ false)
+  -- kept where it asks
+  abbrev pub kept-there : Bool
+  kept-there = k .keeps (k .wish .entry a (s a)) (asked (k .wish) s (k .wish .entry a (s a))) a
+
+  pub turned-parts : turned k s a ≡ true → (s a < k .wish .len a) × (kept-there ≡ false)
   unfolding turned
   turned-parts h = grind (arith, tells)
 
-  pub turned-from : s a < k .wish .len a → k .keeps (k .wish .entry a (s a)) (asked (k .wish) s (k .wish .entry a (s a))) a ≡ false → turned k s a ≡ true
+  pub turned-from : s a < k .wish .len a → kept-there ≡ false → turned k s a ≡ true
   unfolding turned
   turned-from l h = grind (arith, tells)
 
-  pub kept-from-unturned : turned k s a ≡ false → s a < k .wish .len a → k .keeps (k .wish .entry a (s a)) (asked (k .wish) s (k .wish .entry a (s a))) a ≡ true
+  pub kept-from-unturned : turned k s a ≡ false → s a < k .wish .len a → kept-there ≡ true
   unfolding turned
   kept-from-unturned h l = grind (arith, tells)
 
@@ -66,8 +70,12 @@ module _ (k : Market) (s : ℕ → ℕ) (a : ℕ) where
   unfolding move
   move-on h = grind arith
 
+-- two tests that pass together are equal
+pub same-tests : {x y : Bool} → (x ≡ true → y ≡ true) → (y ≡ true → x ≡ true) → x ≡ y
+same-tests {x} {y} f g = same-from-decides {P = y ≡ true} x y (f, g) (λ h. h, λ h. h)
+
 -- ways of keeping
-module _ (n : ℕ) (keeps : ℕ → (ℕ → Bool) → ℕ → Bool) (way : Way n keeps) (p : ℕ) (X Y : ℕ → Bool) (sub : Within X Y) where
+module _ {n : ℕ} {keeps : ℕ → (ℕ → Bool) → ℕ → Bool} (way : Way n keeps) (p : ℕ) (X Y : ℕ → Bool) (sub : Within X Y) where
   -- whoever is not kept out of some is not kept out of more
   pub refused-stays : (a : ℕ) → X a ≡ true → keeps p X a ≡ false → keeps p Y a ≡ false
   refused-stays a x h =
@@ -78,4 +86,4 @@ module _ (n : ℕ) (keeps : ℕ → (ℕ → Bool) → ℕ → Bool) (way : Way 
   irc own a l =
       let more = λ (b : ℕ) (h : keeps p Y b ≡ true). way .substitutes p X Y sub b (own b h) h in
       let fewer = count-all (keeps p Y) (keeps p X) n (λ b _. more b) (way .aggregate p X Y sub) a l in
-      same-from-decides {P = keeps p Y a ≡ true} (keeps p X a) (keeps p Y a) (fewer, more a) (λ h. h, λ h. h)
+      same-tests fewer (more a)

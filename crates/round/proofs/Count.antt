@@ -1,9 +1,10 @@
 -- Counting and sums below a number: monotone, pointwise, split by a second set, double counting; then whether any passes a
 -- test, and the greatest and the least that pass.
-use mathlib.Core.Path.{_≡_, refl, sym, ap, _∙_}
+use mathlib.Core.Path.{_≡_, refl, sym, _∙_}
 use mathlib.Core.Bool.{Bool, true, false, cond, not, _&&_, _||_}
 use mathlib.Core.Logic.{_⊎_, inl, inr, ⊎-elim, _≢_}
 use Prim.Native.Nat.{ℕ, zero, suc, _+_, _≤_, _<_}
+use native.Mathlib.Nat.{le-trans}
 use native.Mathlib.Omega.{arith}
 use Rattle.std.proofs.shelf.Tests.{cases-lt, cases-eq, cases-bool, false≢true}
 use Rattle.round.specs.Market.{count, sum}
@@ -177,9 +178,15 @@ find f (suc n) =
       | inr e ↦ elim (find f n) [ inl s ↦ inl (s .0, omega arith, s .2) | inr h ↦ inr (below-suc _ n h e) ]
     ]
 
--- of those that pass one that comes after all others, or nobody passes
+le-total : (x y : ℕ) → (x ≤ y) ⊎ (y ≤ x)
+le-total x y = elim (cases-lt x y) [ inl l ↦ inl (omega arith) | inr l ↦ inr l ]
+
+-- one of those that pass that comes after all others by R, or nobody passes
+abbrev pub Optimum : (ℕ → Bool) → (ℕ → ℕ → Type 0) → ℕ → Type 0
+Optimum f R n = ((a : ℕ) × (a < n) × (f a ≡ true) × ((b : ℕ) → b < n → f b ≡ true → R b a)) ⊎ ((a : ℕ) → a < n → f a ≡ false)
+
 module _ (f : ℕ → Bool) (R : ℕ → ℕ → Type 0) (total : (a b : ℕ) → R a b ⊎ R b a) (trans : (a b c : ℕ) → R a b → R b c → R a c) where
-  pub optimum : (n : ℕ) → ((a : ℕ) × (a < n) × (f a ≡ true) × ((b : ℕ) → b < n → f b ≡ true → R b a)) ⊎ ((a : ℕ) → a < n → f a ≡ false)
+  pub optimum : (n : ℕ) → Optimum f R n
   optimum zero = inr (λ a l. absurd (omega arith))
   optimum (suc n) =
       elim (cases-bool (f n)) [
@@ -201,21 +208,9 @@ module _ (f : ℕ → Bool) (R : ℕ → ℕ → Type 0) (total : (a b : ℕ) �
       ]
 
 -- one with the greatest measure of those that pass, or nobody passes
-pub best : (f : ℕ → Bool) (v : ℕ → ℕ) (n : ℕ) → ((a : ℕ) × (a < n) × (f a ≡ true) × ((b : ℕ) → b < n → f b ≡ true → v b ≤ v a)) ⊎ ((a : ℕ) → a < n → f a ≡ false)
-best f v n = optimum f (λ a b. v a ≤ v b) (λ a b. total (v a) (v b)) (λ a b c. trans (v a) (v b) (v c)) n
-  where
-    total : (x y : ℕ) → (x ≤ y) ⊎ (y ≤ x)
-    total x y = elim (cases-lt x y) [ inl l ↦ inl (omega arith) | inr l ↦ inr l ]
-
-    trans : (x y z : ℕ) → x ≤ y → y ≤ z → x ≤ z
-    trans x y z h i = omega arith
+pub best : (f : ℕ → Bool) (v : ℕ → ℕ) (n : ℕ) → Optimum f (λ b a. v b ≤ v a) n
+best f v n = optimum f (λ b a. v b ≤ v a) (λ a b. le-total (v a) (v b)) (λ a b c h i. le-trans h i) n
 
 -- one with the least measure of those that pass, or nobody passes
-pub least : (f : ℕ → Bool) (v : ℕ → ℕ) (n : ℕ) → ((a : ℕ) × (a < n) × (f a ≡ true) × ((b : ℕ) → b < n → f b ≡ true → v a ≤ v b)) ⊎ ((a : ℕ) → a < n → f a ≡ false)
-least f v n = optimum f (λ a b. v b ≤ v a) (λ a b. total (v a) (v b)) (λ a b c. trans (v a) (v b) (v c)) n
-  where
-    total : (x y : ℕ) → (y ≤ x) ⊎ (x ≤ y)
-    total x y = elim (cases-lt x y) [ inl l ↦ inr (omega arith) | inr l ↦ inl l ]
-
-    trans : (x y z : ℕ) → y ≤ x → z ≤ y → z ≤ x
-    trans x y z h i = omega arith
+pub least : (f : ℕ → Bool) (v : ℕ → ℕ) (n : ℕ) → Optimum f (λ b a. v a ≤ v b) n
+least f v n = optimum f (λ b a. v a ≤ v b) (λ a b. le-total (v b) (v a)) (λ a b c h i. le-trans i h) n

@@ -1,14 +1,18 @@
 -- Asking in any order comes to one end: every reached state lies at or before every closed one, and asking all together
 -- comes to a closed state after as many steps as there are list entries.
 use mathlib.Core.Path.{_≡_, refl, sym, ap, subst, _∙_, fun-ext}
-use mathlib.Core.Bool.{Bool, true, false}
-use mathlib.Core.Logic.{_⊎_, inl, inr, _≢_}
+use mathlib.Core.Bool.{true, false}
+use mathlib.Core.Logic.{_⊎_, inl, inr}
 use Prim.Native.Nat.{ℕ, zero, suc, _+_, _≤_, _<_, min}
 use native.Mathlib.Omega.{arith}
 use Rattle.std.proofs.shelf.Tests.{cases-lt, cases-eq, cases-bool, false≢true}
-use Rattle.round.specs.Market.{Wish, Market, Lawful, Reached, start, then, Moves, Closed, Justified, Steady, asked, here, turned, move, run, final, entries, asks, asks-at, sum}
+use Rattle.round.specs.Market.{Wish, Market, Lawful, Reached, start, then, Moves, Closed, Justified, Steady, asked, here, turned, move, run, final, entries, asks-at, sum}
 use Rattle.round.proofs.Count.{sum-mono, sum-same, sum-less, find}
-use Rattle.round.proofs.Askers.{asked-from, asked-parts, asked-more, here-from, here-parts, here-asked, turned-parts, turned-from, kept-from-unturned, move-stays, move-on, refused-stays}
+use Rattle.round.proofs.Askers.{asked-from, asked-more, here-from, here-parts, turned-parts, kept-from-unturned, move-stays, move-on, refused-stays}
+
+-- u is closed at the workshops of k under the lists w
+abbrev pub Closed-under : Market → Wish → (ℕ → ℕ) → Type 0
+Closed-under k w u = (p a : ℕ) → here w u p a ≡ true → k .keeps p (asked w u p) a ≡ true
 
 module _ (k : Market) where
   -- nobody is turned down
@@ -73,7 +77,7 @@ module _ (k : Market) (law : Lawful k) where
             elim (cases-eq (s a) (t a)) [
               | inr ne ↦ omega arith
               | inl same ↦
-                  let out = refused-stays (k .n) (k .keeps) (law .way) p (asked (k .wish) s p) (asked (k .wish) t p) (asked-more (k .wish) s t p ih) a
+                  let out = refused-stays (law .way) p (asked (k .wish) s p) (asked (k .wish) t p) (asked-more (k .wish) s t p ih) a
                   (asked-from (k .wish) s p a (omega arith) (omega arith)) (i .1) in
                   absurd (false≢true (sym out ∙ cl p a (here-from (k .wish) t p a (at ∙ same) (omega arith))))
             ]
@@ -97,7 +101,7 @@ module _ (k : Market) (law : Lawful k) where
     where
       stays : k .wish .pos a p ≤ s a → k .keeps p (asked (k .wish) s p) a ≡ false → k .keeps p (asked (k .wish) t p) a ≡ false
       stays h =
-          refused-stays (k .n) (k .keeps) (law .way) p (asked (k .wish) s p) (asked (k .wish) t p) (asked-more (k .wish) s t p (moves-on k s t mv)) a
+          refused-stays (law .way) p (asked (k .wish) s p) (asked (k .wish) t p) (asked-more (k .wish) s t p (moves-on k s t mv)) a
           (asked-from (k .wish) s p a h l)
 
   -- where nobody is turned down nothing moves any more

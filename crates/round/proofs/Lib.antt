@@ -3,6 +3,8 @@ pub mod Count
 pub mod Askers
 pub mod Ends
 pub mod Stability
+pub mod Newcomer
+pub mod Coalition
 pub mod Theorems
 -- Rounds: the way of keeping by points, the given step-by-step definitions, the given statements.
 pub mod Worth
