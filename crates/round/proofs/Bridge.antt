@@ -69,7 +69,7 @@ module _ (r : Round) (ok : Proper r) where
   pub keeps-here : (s : ℕ → ℕ) → Justified (market-of r) s → (p a : ℕ) → a < length (r .lists) → market-of r .keeps p (here (wish-of r) s p) a ≡ market-of r .keeps p (asked (wish-of r) s p) a
   unfolding market-of
   keeps-here s just p =
-      irc _ _ (market-lawful r ok .way) p _ _ (here-within (wish-of r) s p) (kept-here (market-of r) (market-lawful r ok) s just p)
+      irc (market-lawful r ok .way) p _ _ (here-within (wish-of r) s p) (kept-here (market-of r) (market-lawful r ok) s just p)
 
   -- the given `refused` says who is turned down
   pub refused-turned : (at : List ℕ) → Justified (market-of r) (state-of at) → (a : ℕ) → a < length (r .lists) → refused r at a ≡ turned (market-of r) (state-of at) a
