@@ -15,7 +15,7 @@ use Rattle.round.specs.Places.{asked as asks-now}
 use Rattle.round.specs.Promise.{Proper, rank}
 use Rattle.round.specs.Market.{Market, Lawful, Listed, Within, Reached, Justified, asked, here, turned, move, run, final, entries, asks, asks-at, got, held, count, sum}
 use Rattle.round.specs.ByPoints.{wish-of, market-of, keeps-best, ahead-of}
-use Rattle.round.specs.Office.{asks-of, asks-from}
+use Rattle.round.specs.Office.{asks-of, asks-from, By-market}
 use Rattle.round.proofs.Askers.{here-from, here-parts, here-within, turned-parts, irc}
 use Rattle.round.proofs.Best.{not-kept}
 use Rattle.round.proofs.Ranks.{listed-by-rank, market-lawful}
@@ -143,3 +143,7 @@ module _ (r : Round) (ok : Proper r) where
   pub asks-same : asks-of r ≡ asks (market-of r)
   unfolding asks-of asks-from asks asks-at market-of wish-of
   asks-same = ap {B = ℕ} (λ (s : ℕ → ℕ). asks-at (market-of r) s) steps-final
+
+pub by-market : By-market
+unfolding By-market
+by-market r ok = (market-lawful r ok, λ t a. ap {B = ℕ} (λ (s : ℕ → ℕ). s a) (steps-run r ok t), result-got r ok, asks-same r ok)

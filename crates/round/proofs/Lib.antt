@@ -13,3 +13,8 @@ pub mod Ranks
 pub mod Ending
 pub mod Bridge
 pub mod Same
+pub mod Promised
+pub mod Orders
+pub mod Cuts
+pub mod Rounds
+pub mod Judging

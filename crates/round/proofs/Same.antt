@@ -14,7 +14,7 @@ use Rattle.round.specs.Places.{Round, point, nowhere, pick}
 use Rattle.round.specs.Promise.{Proper, Stable, rank, given}
 use Rattle.round.specs.Market.{Market, Lawful, Listed, Stable-at, here, held, joined-by, count}
 use Rattle.round.specs.ByPoints.{wish-of, market-of, keeps-best, ahead-of}
-use Rattle.round.specs.Office.{position-of}
+use Rattle.round.specs.Office.{position-of, Same-stable}
 use Rattle.round.proofs.Count.{count-mono, count-same, count-less, count-all}
 use Rattle.round.proofs.Askers.{here-from, here-parts}
 use Rattle.round.proofs.Stability.{joined-self, here-joined}
@@ -184,3 +184,23 @@ module _ (r : Round) (ok : Proper r) where
   stable-held s st =
       given-from-stable (held (market-of r) s) (held-assigns s)
       (subst (λ (t : ℕ → ℕ). Stable-at (market-of r) t) (sym (fun-ext (position-held s (st .within)))) st)
+
+  -- an assignment is what its positions hold
+  pub held-position : (m : ℕ → ℕ) → Assigns m → (a : ℕ) → a < length (r .lists) → held (market-of r) (position-of r m) a ≡ m a
+  unfolding held market-of wish-of position-of nowhere
+  held-position m own a l =
+      elim (own a l) [
+        | inl e ↦
+            let used = rank-nowhere r ok a (m a) (omega arith) in
+            held-none (position-of r m) a (omega arith) ∙ sym e
+        | inr lt ↦ cond-true _ _ _ (lt-ltb (rank (getD (r .lists) a []) (m a)) _ lt) ∙ listed-by-rank r ok .back a (m a) lt
+      ]
+
+pub same-stable : Same-stable
+unfolding Same-stable
+same-stable r ok = (
+  stable-from-given r ok,
+  stable-held r ok,
+  λ s st. position-held r ok s (st .within),
+  λ m st. held-position r ok m (stable-assigns r ok m st),
+)

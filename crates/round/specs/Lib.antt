@@ -4,3 +4,5 @@ pub mod Market
 pub mod Laws
 pub mod ByPoints
 pub mod Office
+pub mod Cuts
+pub mod Rounds

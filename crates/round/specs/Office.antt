@@ -1,5 +1,5 @@
--- What the office promises beyond the given statements, in the same words: of asking in any order, of the number of asks, and of
--- any set of applicants that do not write their true lists.
+-- What the office promises beyond the given statements, in the same words: of asking in any order, of the number of asks, of any set of
+-- applicants that do not write their true lists; and that worths, rounds and assignments are those of the market.
 use mathlib.Core.Path.{_≡_}
 use mathlib.Core.Bool.{Bool, true, false}
 use mathlib.Core.Logic.{_⊎_}
@@ -7,8 +7,9 @@ use mathlib.Core.List.{List, []}
 use Prim.Native.Nat.{ℕ, _+_, _≤_, _<_, min}
 use lib.ListN.{length, getD, replicate}
 use Rattle.round.specs.Places.{Round, asked, refused, steps, total, result}
-use Rattle.round.specs.Promise.{Proper, rank}
-use Rattle.round.specs.Market.{sum}
+use Rattle.round.specs.Promise.{Proper, Stable, rank}
+use Rattle.round.specs.Market.{Lawful, Stable-at, sum, run, got, held, asks}
+use Rattle.round.specs.ByPoints.{worth-of, market-of}
 
 -- the position of what an assignment gives, in each applicant's list
 unfoldable pub position-of : Round → (ℕ → ℕ) → ℕ → ℕ
@@ -45,9 +46,37 @@ with-lists r ls = record { lists = ls; places = r .places; points = r .points }
 
 -- whatever set of applicants writes other lists than its true ones, not all of it get something dearer, by their true lists, than
 -- the true lists get them. r has the true lists, ls are those that are sent in
-unfoldable pub Not-all-gain : Type 0
-Not-all-gain =
+unfoldable pub Not-all-liars-gain : Type 0
+Not-all-liars-gain =
     (r : Round) (ls : List (List ℕ)) (liar : ℕ → Bool) → Proper r → Proper (with-lists r ls) → length ls ≡ length (r .lists) →
     ((a : ℕ) → liar a ≡ false → getD ls a [] ≡ getD (r .lists) a []) → (b : ℕ) → b < length (r .lists) → liar b ≡ true →
     ((a : ℕ) → a < length (r .lists) → liar a ≡ true → rank (getD (r .lists) a []) (result (with-lists r ls) a) < rank (getD (r .lists) a []) (result r a)) →
     ⊥
+
+-- worths go by points first and then by the lower lot, and only those without points have none
+unfoldable pub By-points : Type 0
+By-points =
+    (p q l k : ℕ) → l < 65536 → k < 65536 → 0 < q →
+    (worth-of p l < worth-of q k → (p < q) ⊎ ((p ≡ q) × (k < l)))
+    × ((p < q) ⊎ ((p ≡ q) × (k < l)) → worth-of p l < worth-of q k)
+    × (worth-of p l ≡ worth-of q k → (p ≡ q) × (l ≡ k))
+    × (0 < worth-of q k)
+    × (worth-of 0 l ≡ 0)
+
+-- a proper round is a lawful market, and the given steps, result and asks are those of the market
+unfoldable pub By-market : Type 0
+By-market =
+    (r : Round) → Proper r →
+    Lawful (market-of r)
+    × ((t a : ℕ) → getD (steps r t) a 0 ≡ run (market-of r) t a)
+    × ((a : ℕ) → result r a ≡ got (market-of r) a)
+    × (asks-of r ≡ asks (market-of r))
+
+-- the stable assignments are the stable states of the market: by the positions of what an assignment gives, and by what a state holds
+unfoldable pub Same-stable : Type 0
+Same-stable =
+    (r : Round) → Proper r →
+    ((m : ℕ → ℕ) → Stable r m → Stable-at (market-of r) (position-of r m))
+    × ((s : ℕ → ℕ) → Stable-at (market-of r) s → Stable r (held (market-of r) s))
+    × ((s : ℕ → ℕ) → Stable-at (market-of r) s → (a : ℕ) → position-of r (held (market-of r) s) a ≡ s a)
+    × ((m : ℕ → ℕ) → Stable r m → (a : ℕ) → a < length (r .lists) → held (market-of r) (position-of r m) a ≡ m a)
