@@ -1,6 +1,5 @@
--- How far asking one after the other has come, in any lawful market, and what one ask does to it. d is the entry that each applicant
--- has come to; u how many entries each has asked: d + 1 of those who have settled, d of the one who asks now and of those who have not
--- begun. At the end all have settled, and d is the end of asking all together.
+-- What one ask does to how far asking has come, in any lawful market; and that where all have settled this is the end of asking all
+-- together.
 use mathlib.Core.Path.{_≡_, refl, sym, ap, _∙_, subst, fun-ext}
 use mathlib.Core.Bool.{Bool, true, false, cond, not, _&&_}
 use mathlib.Core.Logic.{_⊎_, inl, inr, _≢_}
@@ -10,20 +9,9 @@ use lib.Dec.{ltb, leb, eqb}
 use Rattle.std.proofs.shelf.Ways.{tells}
 use Rattle.std.proofs.shelf.Tests.{cases-lt, cases-eq, cases-bool, false≢true}
 use Rattle.round.specs.Market.{Wish, Market, Within, Lawful, Reached, Moves, start, then, Closed, asked, here, turned, final, asks, asks-at, sum}
+use Rattle.asking.specs.Asking.{gone, Going}
 use Rattle.round.proofs.Askers.{asked-from, here-parts, turned-from, refused-stays}
 use Rattle.round.proofs.Theorems.{same-end}
-
--- whoever has asked p, where u says how many entries each has asked
-unfoldable pub gone : Wish → (ℕ → ℕ) → ℕ → ℕ → Bool
-gone w u p c = ltb (w .pos c p) (u c) && ltb (w .pos c p) (w .len c)
-
-pub record Going (k : Market) (d u : ℕ → ℕ) : Type 0 where
-  pub reached : Reached k d
-  pub near : (c : ℕ) → (d c ≤ u c) × (u c ≤ d c + 1)
-  -- whoever has settled is kept out of all who have asked
-  pub settled : (c : ℕ) → u c ≡ d c + 1 → d c < k .wish .len c → k .keeps (k .wish .entry c (d c)) (gone (k .wish) u (k .wish .entry c (d c))) c ≡ true
-  -- and whoever has passed a workshop is not
-  pub passed : (p c : ℕ) → k .wish .pos c p < k .wish .len c → k .wish .pos c p < d c → k .keeps p (gone (k .wish) u p) c ≡ false
 
 module _ (w : Wish) (u : ℕ → ℕ) (p c : ℕ) where
   pub gone-from : w .pos c p < u c → w .pos c p < w .len c → gone w u p c ≡ true
