@@ -2,3 +2,4 @@
 pub mod Progress
 pub mod Tabled
 pub mod Standings
+pub mod Proper

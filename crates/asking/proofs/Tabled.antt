@@ -5,7 +5,7 @@ use mathlib.Core.List.{List, []}
 use Prim.Native.Nat.{ℕ, _+_, _-_, _≤_, _<_}
 use native.Mathlib.Omega.{arith}
 use lib.ListN.{length, getD, take, drop}
-use Rattle.std.proofs.shelf.Lists.{length-take-le, length-drop, getD-take, getD-drop, getD-default}
+use Rattle.std.proofs.shelf.Lists.{length-take-le, length-drop, getD-take, getD-drop, getD-default, getD-past}
 use Rattle.layout.specs.Slices.{table}
 use Rattle.layout.specs.Tables.{Tables, Proper, applicants, workshops, places-at, list-length, list-at}
 use Rattle.layout.proofs.Flats.{length-table, getD-table}
@@ -16,6 +16,14 @@ use Rattle.round.specs.ByPoints.{market-of, wish-of, keeps-best}
 use Rattle.points.specs.Standing.{round-of, market, worth}
 
 module _ (t : Tables) where
+  pub length-lists : length (round-of t .lists) ≡ applicants t
+  unfolding round-of
+  length-lists = length-table _ _
+
+  pub length-places : length (round-of t .places) ≡ workshops t
+  unfolding round-of
+  length-places = length-table _ _
+
   pub market-n : market t .n ≡ applicants t
   unfolding market market-of round-of
   market-n = length-table _ _
@@ -35,6 +43,10 @@ module _ (t : Tables) where
   pub point-of-round : (w a : ℕ) → w < workshops t → a < applicants t → point (round-of t) w a ≡ worth t w a
   unfolding round-of point
   point-of-round w a l h = ap (λ (xs : List ℕ). getD xs a 0) (getD-table _ _ w [] l) ∙ getD-table (worth t w) _ a 0 h
+
+  pub point-past : (w a : ℕ) → workshops t ≤ w → point (round-of t) w a ≡ 0
+  unfolding round-of point
+  point-past w a l = ap (λ (xs : List ℕ). getD xs a 0) (getD-past _ w [] (let e = length-table (λ p. table (worth t p) (applicants t)) (workshops t) in omega arith))
 
 module _ (t : Tables) (ok : Proper t) (a : ℕ) (l : a < applicants t) where
   pub starts-within : getD (t .starts) (a + 1) 0 ≤ length (t .entries)
