@@ -1,2 +1,4 @@
 -- Lemmas over the definitions of specs/.
 pub mod Shift
+pub mod Numbers
+pub mod Laws
