@@ -3,3 +3,4 @@ pub mod Progress
 pub mod Tabled
 pub mod Standings
 pub mod Proper
+pub mod Gathered

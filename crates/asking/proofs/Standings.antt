@@ -98,6 +98,15 @@ module _ (t : Tables) (ok : Proper t) (w : ℕ) (l : w < workshops t) where
         | inr f ↦ inr (f .0, λ r h. f .1 r (h .0) (omega arith))
       ]
 
+  pub row-is-some : (r : ℕ) → Of t w r → r ≢ no-row
+  row-is-some r h e = let s = row-small r h in omega (arith, ok .limited .3)
+
+  pub row-found : (a : ℕ) → row-of t w a ≢ no-row → Of t w (row-of t w a) × (getD (t .row-applicants) (row-of t w a) 0 ≡ a)
+  row-found a ne = elim (row-of-cases a) [ inl f ↦ f | inr f ↦ absurd (ne (f .0)) ]
+
+  pub row-lacking : (a : ℕ) → row-of t w a ≡ no-row → (r : ℕ) → Of t w r → getD (t .row-applicants) r 0 ≢ a
+  row-lacking a e = elim (row-of-cases a) [ inl f ↦ absurd (row-is-some _ (f .0) e) | inr f ↦ f .1 ]
+
   -- the row of a row's applicant is that row
   pub row-of-applicant : (r : ℕ) → Of t w r → row-of t w (getD (t .row-applicants) r 0) ≡ r
   row-of-applicant r h =
