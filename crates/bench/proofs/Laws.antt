@@ -21,8 +21,8 @@ module _ (v : ℕ → ℕ) where
   length-after x [] = refl
   length-after x (y ∷ ys) =
       elim (ltb (v y) (v x)) as (λ t. length (cond t (x ∷ after v y ys) (y ∷ after v x ys)) ≡ suc (length ys)) [
-        true ↦ ap suc (length-after y ys)
-      | false ↦ ap suc (length-after x ys)
+        | true ↦ ap suc (length-after y ys)
+        | false ↦ ap suc (length-after x ys)
       ]
 
   -- whoever sat there or asks, sits there or is out
@@ -32,17 +32,17 @@ module _ (v : ℕ → ℕ) where
   number-after p x (y ∷ ys) =
       elim (ltb (v y) (v x)) as
       (λ t.
-          number p (cond t (x ∷ after v y ys) (y ∷ after v x ys)) + cond (p (cond t (out v y ys) (out v x ys))) 1 0
-          ≡ (cond (p y) 1 0 + number p ys) + cond (p x) 1 0) [
-        true ↦ omega (arith, number-after p y ys)
-      | false ↦ omega (arith, number-after p x ys)
+      number p (cond t (x ∷ after v y ys) (y ∷ after v x ys)) + cond (p (cond t (out v y ys) (out v x ys))) 1 0
+      ≡ (cond (p y) 1 0 + number p ys) + cond (p x) 1 0) [
+        | true ↦ omega (arith, number-after p y ys)
+        | false ↦ omega (arith, number-after p x ys)
       ]
 
   pub has-after : (z x : ℕ) (b : List ℕ) → has z (after v x b) ≡ true → (z ≡ x) ⊎ (has z b ≡ true)
   has-after z x b h =
       elim (cases-eq z x) [
-        inl e ↦ inl e
-      | inr ne ↦ inr (has-number z b (omega (arith, number-has z (after v x b) h, rw (ne-eqb z x ne) at (number-after (eqb z) x b))))
+        | inl e ↦ inl e
+        | inr ne ↦ inr (has-number z b (omega (arith, number-has z (after v x b) h, rw (ne-eqb z x ne) at (number-after (eqb z) x b))))
       ]
 
   -- a row with no points changes nothing
@@ -66,8 +66,8 @@ module _ (v : ℕ → ℕ) where
       let this = above-after u y ys (sorted .1) in
       let that = above-after u x ys (sorted .1) in
       elim (cases-lt (v y) (v x)) [
-        inl h ↦ rw (lt-ltb (v y) (v x) h) (grind (arith, tells, this, none, few))
-      | inr h ↦ rw (le-ltb (v y) (v x) h) (grind (arith, tells, that, none, few))
+        | inl h ↦ rw (lt-ltb (v y) (v x) h) (grind (arith, tells, this, none, few))
+        | inr h ↦ rw (le-ltb (v y) (v x) h) (grind (arith, tells, that, none, few))
       ]
 
   -- the order stays, where the worths tell the asker and all who sit there apart
@@ -77,33 +77,35 @@ module _ (v : ℕ → ℕ) where
   sorted-after x [] apart sorted = tt
   sorted-after x (y ∷ ys) apart sorted =
       elim (cases-lt (v y) (v x)) [
-        inl h ↦
-          rw (lt-ltb (v y) (v x) h)
-          (λ z k.
-              inl (elim (has-after z y ys k) [
-                inl e ↦ omega (arith, ap v e)
-              | inr m ↦ (elim (sorted .0 z m) [ inl l ↦ omega arith | inr e ↦ omega (arith, ap v e) ])
-              ]),
-          sorted-after y ys (λ a c ka kc e. apart a c (has-there a x (y ∷ ys) ka) (has-there c x (y ∷ ys) kc) e) (sorted .1))
-      | inr h ↦
-          rw (le-ltb (v y) (v x) h)
-          (λ z k.
-              elim (has-after z x ys k) [
-                inl e ↦
-                  (elim (cases-lt (v x) (v y)) [
-                    inl l ↦ inl (omega (arith, ap v e))
-                  | inr l ↦ inr (e ∙ apart x y (has-here x (y ∷ ys)) (has-there y x (y ∷ ys) (has-here y ys)) (omega arith))
-                  ])
-              | inr m ↦ sorted .0 z m
-              ],
-          sorted-after x ys (λ a c ka kc e. apart a c (wider a ka) (wider c kc) e) (sorted .1))
+        | inl h ↦
+            rw (lt-ltb (v y) (v x) h) (
+              λ z k.
+                  inl (elim (has-after z y ys k) [
+                    | inl e ↦ omega (arith, ap v e)
+                    | inr m ↦ (elim (sorted .0 z m) [ inl l ↦ omega arith | inr e ↦ omega (arith, ap v e) ])
+                  ]),
+              sorted-after y ys (λ a c ka kc e. apart a c (has-there a x (y ∷ ys) ka) (has-there c x (y ∷ ys) kc) e) (sorted .1),
+            )
+        | inr h ↦
+            rw (le-ltb (v y) (v x) h) (
+              λ z k.
+                  elim (has-after z x ys k) [
+                    | inl e ↦
+                        (elim (cases-lt (v x) (v y)) [
+                          | inl l ↦ inl (omega (arith, ap v e))
+                          | inr l ↦ inr (e ∙ apart x y (has-here x (y ∷ ys)) (has-there y x (y ∷ ys) (has-here y ys)) (omega arith))
+                        ])
+                    | inr m ↦ sorted .0 z m
+                  ],
+              sorted-after x ys (λ a c ka kc e. apart a c (wider a ka) (wider c kc) e) (sorted .1),
+            )
       ]
     where
       wider : (a : ℕ) → has a (x ∷ ys) ≡ true → has a (x ∷ (y ∷ ys)) ≡ true
       wider a k =
           elim (has-cases a x ys k) [
-            inl e ↦ rw e (has-here x (y ∷ ys))
-          | inr m ↦ has-there a x (y ∷ ys) (has-there a y ys m)
+            | inl e ↦ rw e (has-here x (y ∷ ys))
+            | inr m ↦ has-there a x (y ∷ ys) (has-there a y ys m)
           ]
 
   -- On a sorted bench an ask from the last seat up does the same.
@@ -113,11 +115,11 @@ module _ (v : ℕ → ℕ) where
   after-head y (z ∷ zs) sorted =
       let rest = after-head z zs (sorted .1) in
       elim (sorted .0 z (has-here z zs)) [
-        inl l ↦ (let here = cond-true (ltb (v z) (v y)) (y ∷ after v z zs) (z ∷ after v y zs) (lt-ltb (v z) (v y) l) in cc)
-      | inr e ↦
-          (let level = le-ltb (v z) (v y) (omega (arith, ap v e)) in
-          let here = cond-false (ltb (v z) (v y)) (y ∷ after v z zs) (z ∷ after v y zs) level in
-          cc)
+        | inl l ↦ (let here = cond-true (ltb (v z) (v y)) (y ∷ after v z zs) (z ∷ after v y zs) (lt-ltb (v z) (v y) l) in cc)
+        | inr e ↦
+            (let level = le-ltb (v z) (v y) (omega (arith, ap v e)) in
+            let here = cond-false (ltb (v z) (v y)) (y ∷ after v z zs) (z ∷ after v y zs) level in
+            cc)
       ]
 
   out-head : (y : ℕ) (ys : List ℕ) → Best-first v (y ∷ ys) → out v y ys ≡ last-seat y ys
@@ -126,11 +128,11 @@ module _ (v : ℕ → ℕ) where
   out-head y (z ∷ zs) sorted =
       let rest = out-head z zs (sorted .1) in
       elim (sorted .0 z (has-here z zs)) [
-        inl l ↦ (let here = cond-true (ltb (v z) (v y)) (out v z zs) (out v y zs) (lt-ltb (v z) (v y) l) in cc)
-      | inr e ↦
-          (let level = le-ltb (v z) (v y) (omega (arith, ap v e)) in
-          let here = cond-false (ltb (v z) (v y)) (out v z zs) (out v y zs) level in
-          cc)
+        | inl l ↦ (let here = cond-true (ltb (v z) (v y)) (out v z zs) (out v y zs) (lt-ltb (v z) (v y) l) in cc)
+        | inr e ↦
+            (let level = le-ltb (v z) (v y) (omega (arith, ap v e)) in
+            let here = cond-false (ltb (v z) (v y)) (out v z zs) (out v y zs) level in
+            cc)
       ]
 
   leads-from : (x : ℕ) (b : List ℕ) → ((z : ℕ) → has z b ≡ true → v z < v x) → leads v x b ≡ true
@@ -143,10 +145,10 @@ module _ (v : ℕ → ℕ) where
   leads-head x y ys sorted h =
       leads-from x (y ∷ ys)
       (λ z k.
-          elim (has-cases z y ys k) [
-            inl e ↦ omega (arith, ap v e)
-          | inr m ↦ (elim (sorted .0 z m) [ inl l ↦ omega arith | inr e ↦ omega (arith, ap v e) ])
-          ])
+      elim (has-cases z y ys k) [
+        | inl e ↦ omega (arith, ap v e)
+        | inr m ↦ (elim (sorted .0 z m) [ inl l ↦ omega arith | inr e ↦ omega (arith, ap v e) ])
+      ])
 
   last-behind : (x y : ℕ) (ys : List ℕ) → leads v x (y ∷ ys) ≡ true → ltb (v (last-seat y ys)) (v x) ≡ true
   unfolding leads last-seat
@@ -158,14 +160,14 @@ module _ (v : ℕ → ℕ) where
   taken-in-after x [] sorted = refl
   taken-in-after x (y ∷ ys) sorted =
       elim (cases-lt (v y) (v x)) [
-        inl h ↦
-          cond-true _ _ _ (leads-head x y ys sorted h)
-          ∙ ap (λ (zs : List ℕ). x ∷ zs) (sym (after-head y ys sorted))
-          ∙ sym (cond-true _ _ _ (lt-ltb (v y) (v x) h))
-      | inr h ↦
-          cond-false _ _ _ (leads-false v x 0 0 (y ∷ ys) (omega arith) (le-ltb (v y) (v x) h))
-          ∙ ap (λ (zs : List ℕ). y ∷ zs) (taken-in-after x ys (sorted .1))
-          ∙ sym (cond-false _ _ _ (le-ltb (v y) (v x) h))
+        | inl h ↦
+            cond-true _ _ _ (leads-head x y ys sorted h)
+            ∙ ap (λ (zs : List ℕ). x ∷ zs) (sym (after-head y ys sorted))
+            ∙ sym (cond-true _ _ _ (lt-ltb (v y) (v x) h))
+        | inr h ↦
+            cond-false _ _ _ (leads-false v x 0 0 (y ∷ ys) (omega arith) (le-ltb (v y) (v x) h))
+            ∙ ap (λ (zs : List ℕ). y ∷ zs) (taken-in-after x ys (sorted .1))
+            ∙ sym (cond-false _ _ _ (le-ltb (v y) (v x) h))
       ]
 
   pub left-out-out : (x : ℕ) (b : List ℕ) → Best-first v b → left-out v x b ≡ out v x b
@@ -174,9 +176,9 @@ module _ (v : ℕ → ℕ) where
   left-out-out x (y ∷ []) sorted = refl
   left-out-out x (y ∷ (z ∷ zs)) sorted =
       elim (cases-lt (v y) (v x)) [
-        inl h ↦
-          cond-true _ _ _ (last-behind x y (z ∷ zs) (leads-head x y (z ∷ zs) sorted h))
-          ∙ sym (out-head y (z ∷ zs) sorted)
-          ∙ sym (cond-true _ _ _ (lt-ltb (v y) (v x) h))
-      | inr h ↦ left-out-out x (z ∷ zs) (sorted .1) ∙ sym (cond-false _ _ _ (le-ltb (v y) (v x) h))
+        | inl h ↦
+            cond-true _ _ _ (last-behind x y (z ∷ zs) (leads-head x y (z ∷ zs) sorted h))
+            ∙ sym (out-head y (z ∷ zs) sorted)
+            ∙ sym (cond-true _ _ _ (lt-ltb (v y) (v x) h))
+        | inr h ↦ left-out-out x (z ∷ zs) (sorted .1) ∙ sym (cond-false _ _ _ (le-ltb (v y) (v x) h))
       ]

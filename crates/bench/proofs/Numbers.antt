@@ -44,8 +44,8 @@ unfolding number has
 number-less p x [] h e = absurd (false≢true h)
 number-less p x (y ∷ ys) h e =
     elim (or-cases (eqb x y) (has x ys) h) [
-      inl k ↦ (let same : p y ≡ false = ap p (sym (eqb-true x y k)) ∙ e in rw same (omega (arith, number-le p ys)))
-    | inr k ↦ omega (arith, number-less p x ys k e, one-le (p y))
+      | inl k ↦ (let same : p y ≡ false = ap p (sym (eqb-true x y k)) ∙ e in rw same (omega (arith, number-le p ys)))
+      | inr k ↦ omega (arith, number-less p x ys k e, one-le (p y))
     ]
 
 pub number-none : (p : ℕ → Bool) (xs : List ℕ) → ((x : ℕ) → has x xs ≡ true → p x ≡ false) → number p xs ≡ 0
@@ -71,11 +71,11 @@ module _ (p q : ℕ → Bool) (wider : (x : ℕ) → p x ≡ true → q x ≡ tr
   number-more x [] h e f = absurd (false≢true h)
   number-more x (y ∷ ys) h e f =
       elim (or-cases (eqb x y) (has x ys) h) [
-        inl k ↦
-          (let sp : p y ≡ false = ap p (sym (eqb-true x y k)) ∙ e in
-          let sq : q y ≡ true = ap q (sym (eqb-true x y k)) ∙ f in
-          rw (sp, sq) (omega (arith, number-mono ys)))
-      | inr k ↦ omega (arith, number-more x ys k e f, one-mono y)
+        | inl k ↦
+            (let sp : p y ≡ false = ap p (sym (eqb-true x y k)) ∙ e in
+            let sq : q y ≡ true = ap q (sym (eqb-true x y k)) ∙ f in
+            rw (sp, sq) (omega (arith, number-mono ys)))
+        | inr k ↦ omega (arith, number-more x ys k e f, one-mono y)
       ]
 
 -- and where it passes more often there is such an x
@@ -84,13 +84,13 @@ unfolding number has
 number-between p q [] h = absurd (omega arith)
 number-between p q (x ∷ xs) h =
     elim (cases-lt (number p xs) (number q xs)) [
-      inl k ↦
-        (let found : (z : ℕ) × (has z xs ≡ true) × (p z ≡ false) × (q z ≡ true) = number-between p q xs k in
-        (found .0, or-right _ _ (found .1), found .2, found .3))
-    | inr k ↦
-        (let no-p : p x ≡ false = grind (arith, cases-bool (p x), cases-bool (q x)) in
-        let on-q : q x ≡ true = grind (arith, cases-bool (p x), cases-bool (q x)) in
-        (x, or-left _ _ (eq-eqb x x refl), no-p, on-q))
+      | inl k ↦
+          (let found : (z : ℕ) × (has z xs ≡ true) × (p z ≡ false) × (q z ≡ true) = number-between p q xs k in
+          (found .0, or-right _ _ (found .1), found .2, found .3))
+      | inr k ↦
+          (let no-p : p x ≡ false = grind (arith, cases-bool (p x), cases-bool (q x)) in
+          let on-q : q x ≡ true = grind (arith, cases-bool (p x), cases-bool (q x)) in
+          (x, or-left _ _ (eq-eqb x x refl), no-p, on-q))
     ]
 
 pub has-number : (x : ℕ) (xs : List ℕ) → 0 < number (eqb x) xs → has x xs ≡ true
@@ -98,8 +98,8 @@ unfolding number has
 has-number x [] h = absurd (omega arith)
 has-number x (y ∷ ys) h =
     elim (cases-bool (eqb x y)) [
-      inl k ↦ or-left _ _ k
-    | inr k ↦ or-right _ _ (has-number x ys (omega (arith, rw k at h)))
+      | inl k ↦ or-left _ _ k
+      | inr k ↦ or-right _ _ (has-number x ys (omega (arith, rw k at h)))
     ]
 
 pub number-has : (x : ℕ) (xs : List ℕ) → has x xs ≡ true → 0 < number (eqb x) xs
@@ -107,6 +107,18 @@ unfolding number has
 number-has x [] h = absurd (false≢true h)
 number-has x (y ∷ ys) h =
     elim (or-cases (eqb x y) (has x ys) h) [
-      inl k ↦ rw k (omega arith)
-    | inr k ↦ omega (arith, number-has x ys k)
+      | inl k ↦ rw k (omega arith)
+      | inr k ↦ omega (arith, number-has x ys k)
     ]
+
+-- lists with the same numbers, whatever the test, have the same members
+pub has-same : (xs ys : List ℕ) → ((p : ℕ → Bool) → number p xs ≡ number p ys) → (x : ℕ) → has x xs ≡ true → has x ys ≡ true
+has-same xs ys same x h = has-number x ys (omega (arith, number-has x xs h, same (eqb x)))
+
+pub has-right : (x : ℕ) (xs ys : List ℕ) → has x ys ≡ true → has x (xs ++ ys) ≡ true
+has-right x xs ys h = has-number x (xs ++ ys) (omega (arith, number-has x ys h, number-append (eqb x) xs ys))
+
+-- one from the middle to the front, one from the end to the front
+pub number-middle : (p : ℕ → Bool) (x : ℕ) (xs ys : List ℕ) → number p (xs ++ x ∷ ys) ≡ number p (x ∷ (xs ++ ys))
+unfolding number
+number-middle p x xs ys = omega (arith, number-append p xs (x ∷ ys), number-append p xs ys)

@@ -36,3 +36,7 @@ pub record Best-of (v : ℕ → ℕ) (xs bench : List ℕ) : Type 0 where
   pub once : (x : ℕ) → x ≢ no-row → number (eqb x) bench ≤ number (eqb x) xs
   pub kept : (x : ℕ) → x ≢ no-row → Decides (has x bench) ((has x xs ≡ true) × (0 < v x) × (above v (v x) xs < length bench))
   pub many : (u : ℕ) → above v u bench ≡ min (length bench) (above v u xs)
+
+-- an ask of x keeps it so: the bench held the best of all who asked before, and now holds the best of them and x
+abbrev pub Keeps-best : (ℕ → ℕ) → ℕ → List ℕ → List ℕ → Type 0
+Keeps-best v x before behind = (xs : List ℕ) → Told-apart v (x ∷ xs) → Best-of v xs before → Best-of v (x ∷ xs) behind

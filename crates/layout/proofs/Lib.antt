@@ -5,6 +5,10 @@ pub mod Seen
 pub mod Clean
 pub mod Rows
 pub mod Told
+pub mod OfProper
 pub mod ReadProper
 pub mod Says
 pub mod Written
+pub mod Encoded
+pub mod Said
+pub mod RoundTrip

@@ -1,16 +1,17 @@
 -- Bytes that say proper tables are what the tables are written as.
-use mathlib.Core.Path.{_≡_, refl, sym, ap, ap₂, _∙_}
-use mathlib.Core.List.{List, [], _∷_, _++_}
-use Prim.Native.Nat.{ℕ, _+_, _-_, _*_, _/_, _%_, _≤_, _<_}
+use mathlib.Core.Path.{_≡_, refl, sym, ap, _∙_}
+use mathlib.Core.List.{List, [], _++_}
+use Prim.Native.Nat.{ℕ, _+_, _-_, _/_, _%_, _≤_, _<_}
 use native.Mathlib.Omega.{arith}
-use lib.ListN.{length, getD, take, drop}
-use Rattle.std.proofs.shelf.Lists.{append-assoc, append-nil, length-take-le, length-drop, getD-take, getD-drop, drop-more, drop-all}
+use lib.ListN.{length, getD, drop}
+use Rattle.std.proofs.shelf.Lists.{append-nil, drop-more, drop-all}
 use Rattle.layout.specs.Slices.{table, flat}
-use Rattle.layout.specs.Tables.{Tables, Proper, applicants, workshops, rows, places-at, list-length, list-at}
-use Rattle.layout.specs.Bytes.{byte, word, applicants-in, workshops-in, places-from, record-at, lot-in, count-in, entry-in, rows-from, rows-in, row-at, row-workshop-in, row-applicant-in, row-points-in}
+use Rattle.layout.specs.Tables.{Tables, Proper, applicants, workshops, rows, places-at, list-at}
+use Rattle.layout.specs.Bytes.{word, applicants-in, record-at, count-in, entry-in, rows-from, row-at}
 use Rattle.layout.specs.Encode.{two-bytes, record-bytes, row-bytes, sheet-bytes, encode, Bytes-only}
 use Rattle.layout.proofs.Flats.{is-table, drop-table, drop-is-flat}
-use Rattle.layout.proofs.Offsets.{record-at-none, record-at-more, record-at-mono, rises}
+use Rattle.layout.proofs.Offsets.{record-at-none, record-at-more, record-at-mono, record-there}
+use Rattle.layout.proofs.OfProper.{length-list-at, getD-list-at, row-starts-within}
 use Rattle.layout.proofs.ReadProper.{byte-small}
 use Rattle.layout.proofs.Says.{Says}
 
@@ -25,32 +26,16 @@ drop-word b small p x l e =
     cc
 
 module _ (b : List ℕ) (t : Tables) (p : Proper t) (s : Says b t) (small : Bytes-only b) where
-  record-there : (a : ℕ) → a < applicants t → record-at b a + 3 + count-in b a ≤ length b
-  record-there a l =
-      omega (arith, record-at-more b a, record-at-mono b (a + 1) (applicants-in b) (omega (arith, s .applicants-is)), s .whole)
-
-  starts-mono : (a : ℕ) → a ≤ applicants t → getD (t .starts) a 0 ≤ length (t .entries)
-  starts-mono a l = omega (arith, p .started .4, rises (λ k. getD (t .starts) k 0) (applicants t) (p .started .2) a l)
-
-  row-starts-mono : (w : ℕ) → w ≤ workshops t → getD (t .row-starts) w 0 ≤ rows t
-  row-starts-mono w l = omega (arith, p .sheeted .3, rises (λ k. getD (t .row-starts) k 0) (workshops t) (p .sheeted .2) w l)
-
   list-is : (a : ℕ) → a < applicants t → list-at t a ≡ table (entry-in b a) (count-in b a)
   list-is a l =
-      let from = getD (t .starts) a 0 in
       let count = s .count-is a l in
-      is-table (entry-in b a) (list-at t a) (count-in b a) 0
-      (length-take-le (list-length t a) (drop from (t .entries)) (omega (arith, length-drop from (t .entries), starts-mono a (omega arith), starts-mono (a + 1) (omega arith)))
-      ∙ sym count)
-      (λ j h.
-      getD-take (list-length t a) (drop from (t .entries)) j 0 (omega arith)
-      ∙ getD-drop from (t .entries) j 0
-      ∙ sym (s .entry-is a j l (omega arith)))
+      is-table (entry-in b a) (list-at t a) (count-in b a) 0 (length-list-at t p a l ∙ sym count)
+      (λ j h. getD-list-at t p a j (omega arith) ∙ sym (s .entry-is a j l (omega arith)))
 
   drop-record : (a : ℕ) → a < applicants t → drop (record-at b a) b ≡ record-bytes t a ++ drop (record-at b (a + 1)) b
   drop-record a l =
       let at = record-at b a in
-      let there = record-there a l in
+      let there = record-there b (s .whole) a (omega (arith, s .applicants-is)) in
       let lot = drop-word b small at (getD (t .lots) a 0) (omega arith) (s .lot-is a l) in
       let count = drop-more b (at + 2) 0 (omega arith) in
       let count-is = s .count-is a l in
@@ -64,7 +49,7 @@ module _ (b : List ℕ) (t : Tables) (p : Proper t) (s : Says b t) (small : Byte
       drop (row-at b i) b ≡ row-bytes t w i ++ drop (row-at b (i + 1)) b
   drop-row w i l low high =
       let at = row-at b i in
-      let ir : i < rows t = omega (arith, row-starts-mono (w + 1) (omega arith)) in
+      let ir : i < rows t = omega (arith, row-starts-within t p (w + 1) (omega arith)) in
       let there : at + 5 ≤ length b = omega (arith, s .whole, s .rows-is) in
       let workshop = drop-more b at 0 (omega arith) in
       let workshop-is = s .workshop-is w i l low high in
