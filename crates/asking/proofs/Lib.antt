@@ -8,3 +8,5 @@ pub mod Benched
 pub mod Parts
 pub mod Steps
 pub mod Found
+pub mod Sums
+pub mod Loops

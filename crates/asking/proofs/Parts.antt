@@ -12,7 +12,7 @@ use Rattle.std.proofs.shelf.Lists.{getD-take, getD-past, getD-set-same, getD-se
 use Rattle.std.proofs.shelf.Parts.{between-is, take-putMid-below, drop-putMid, between-putMid}
 use Rattle.layout.specs.Tables.{Tables, Proper, applicants, workshops, places-at}
 use Rattle.layout.proofs.Offsets.{rises}
-use Rattle.asking.specs.Asking.{counts, at-rest, but-for}
+use Rattle.asking.specs.Asking.{counts, at-rest, but-for, one-more}
 
 module _ (t : Tables) (results : List ℕ) where
   pub counts-at : (c : ℕ) → c < applicants t → counts t results c ≡ getD results c 0
@@ -41,6 +41,22 @@ module _ (t : Tables) (results : List ℕ) where
   pub but-for-other : (b c : ℕ) → c ≢ b → but-for t results b c ≡ counts t results c - 1
   unfolding but-for at-rest
   but-for-other b c ne = rw (ne-eqb c b ne)
+
+-- b asks once more
+module _ (t : Tables) (results : List ℕ) (b : ℕ) (small : b < applicants t) (room : applicants t ≤ length results) where
+  pub counts-one-more : counts t (one-more results b) b ≡ but-for t results b b + 1
+  counts-one-more =
+      let e = but-for-same t results b in
+      let f = counts-at t results b small in
+      let g = counts-set-same t results b (getD results b 0 + 1) small room in
+      omega arith
+
+  pub rest-one-more : (c : ℕ) → counts t (one-more results b) c - 1 ≡ but-for t results b c
+  rest-one-more c =
+      elim (cases-eq c b) [
+        | inl e ↦ rw e (let m = counts-one-more in omega arith)
+        | inr ne ↦ let s = counts-set-other t results b (getD results b 0 + 1) c ne in let o = but-for-other t results b c ne in omega arith
+      ]
 
 -- the parts of the workshops lie one after the other
 module _ (t : Tables) (ok : Proper t) (benches part : List ℕ) (w : ℕ) (lw : w < workshops t) (long : length part ≡ places-at t w) (room : getD (t .seats) (workshops t) 0 ≤ length benches) where

@@ -22,7 +22,7 @@ use Rattle.bench.specs.declared.Answer.the-variants.{Kept, Displaced, TurnedDow
 use Rattle.asking.specs.Ended.{bench-of}
 use Rattle.asking.specs.Asking.{gone, Going, counts, at-rest, but-for, one-more, Asking, After, turn-of}
 use Rattle.asking.specs.declared.Turn.the-variants.{Settled, Asks}
-use Rattle.asking.proofs.Parts.{counts-at, counts-set-same, counts-set-other, but-for-same, but-for-other, between-same, between-other, length-parts, drop-behind}
+use Rattle.asking.proofs.Parts.{counts-at, counts-set-other, counts-one-more, rest-one-more, but-for-same, but-for-other, between-same, between-other, length-parts, drop-behind}
 use Rattle.asking.proofs.Progress.{gone-from, gone-parts, not-gone, gone-elsewhere, going-kept, going-out}
 use Rattle.asking.proofs.Tabled.{market-n, market-m, market-len, market-entry}
 use Rattle.asking.proofs.Standings.{row-found, row-small, row-worth-none}
@@ -65,7 +65,7 @@ module _ (t : Tables) (ok : Proper t) (results benches part : List ℕ) (b w x y
   asker = sym (but-for-same t results b)
 
   more : counts t (one-more results b) b ≡ but-for t results b b + 1
-  more = let e = come-to in let f = counts-set-same t results b (getD results b 0 + 1) small (asking .room .0) in omega arith
+  more = counts-one-more t results b small (asking .room .0)
 
   same : (c : ℕ) → c ≢ b → counts t (one-more results b) c ≡ counts t results c
   same = counts-set-other t results b (getD results b 0 + 1)
@@ -146,11 +146,7 @@ module _ (t : Tables) (ok : Proper t) (results benches part : List ℕ) (b w x y
       (elim (cases-eq c b) [ inl e ↦ inr (e, row e) | inr other ↦ inl (kept-here c other h at) ])
 
   rest-after : (c : ℕ) → counts t (one-more results b) c - 1 ≡ but-for t results b c
-  rest-after c =
-      elim (cases-eq c b) [
-        | inl e ↦ rw e (let m = more in omega arith)
-        | inr ne ↦ let s = same c ne in let o = but-for-other t results b c ne in omega arith
-      ]
+  rest-after = rest-one-more t results b small (asking .room .0)
 
   row-kept : (c : ℕ) → c ≢ b → gone (market t .wish) (counts t (one-more results b)) w c ≡ true → market t .wish .pos c w ≡ but-for t results b c → row-of t w c ≢ no-row
   row-kept c ne h at = kept-seated t ok w lw _ c (applicant c h) (kept-here c ne h at) .0
