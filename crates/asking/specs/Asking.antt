@@ -4,12 +4,14 @@ use mathlib.Core.Bool.{Bool, true, false, cond, _&&_}
 use mathlib.Core.List.{List}
 use Prim.Native.Nat.{ℕ, _+_, _-_, _≤_, _<_, min}
 use lib.Dec.{ltb, eqb}
-use lib.ListN.{length, getD, take}
+use lib.ListN.{length, getD, set, take}
 use Rattle.std.specs.Holes.{between}
 use Rattle.layout.specs.Tables.{Tables, applicants, workshops}
 use Rattle.round.specs.Market.{Wish, Market, Reached, sum}
 use Rattle.points.specs.Standing.{market}
 use Rattle.asking.specs.Ended.{bench-of}
+use Rattle.bench.specs.declared.Answer.{Answer}
+use Rattle.bench.specs.declared.Answer.the-variants.{Kept, Displaced, TurnedDown}
 use Rattle.asking.specs.declared.Turn.{Turn}
 use Rattle.asking.specs.declared.Turn.the-variants.{Settled, Asks}
 
@@ -37,6 +39,10 @@ at-rest t results c = counts t results c - 1
 unfoldable pub but-for : Tables → List ℕ → ℕ → ℕ → ℕ
 but-for t results b c = cond (eqb c b) (counts t results c) (at-rest t results c)
 
+-- b asks once more
+abbrev pub one-more : List ℕ → ℕ → List ℕ
+one-more results b = set results b (getD results b 0 + 1)
+
 -- the number of asks so far
 unfoldable pub asks-so-far : Tables → List ℕ → ℕ
 asks-so-far t results = sum (λ c. min (counts t results c) (market t .wish .len c)) (applicants t)
@@ -51,3 +57,9 @@ pub record Asking (t : Tables) (d : ℕ → ℕ) (results benches : List ℕ) : 
 abbrev pub After : Tables → Turn → List ℕ → List ℕ → Type 0
 After t Settled results benches = Asking t (at-rest t results) results benches
 After t (Asks c) results benches = (c < applicants t) × (0 < getD results c 0) × Asking t (but-for t results c) results benches
+
+-- who asks on after b's ask, by the answer to it
+abbrev pub turn-of : Tables → ℕ → Answer → Turn
+turn-of t b Kept = Settled
+turn-of t b (Displaced row) = Asks (getD (t .row-applicants) row 0)
+turn-of t b TurnedDown = Asks b
