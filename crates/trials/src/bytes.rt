@@ -1,5 +1,7 @@
-// A small round written as bytes, apart from the writer under trial.
+// Small rounds and their letters written as bytes, apart from the writers under trial.
 use crate::case::Case;
+use crate::case::Got;
+use crate::cut;
 
 #[derive(Clone, Copy)]
 pub struct Bytes {
@@ -8,6 +10,13 @@ pub struct Bytes {
 }
 
 impl Bytes {
+    fn new() -> Bytes {
+        Bytes {
+            count: 0,
+            bytes: [0; 160],
+        }
+    }
+
     fn push(&mut self, x: u8) {
         if self.count < 160 {
             self.bytes[self.count] = x;
@@ -43,6 +52,15 @@ impl Bytes {
         self.push_word(points as usize);
     }
 
+    fn push_entry(&mut self, case: &Case, got: &Got, w: usize, a: usize) {
+        let cut = cut::cut_at(case, got, w);
+        self.push((w & 255) as u8);
+        self.push_word(case.points_of(w, a) as usize);
+        self.push(cut.kind);
+        self.push_word(cut.points as usize);
+        self.push_word(cut.lot as usize);
+    }
+
     fn push_rows(&mut self, case: &Case) {
         self.push_word(rows(case));
         for w in 0..case.workshops.min(4) {
@@ -69,7 +87,7 @@ fn rows(case: &Case) -> usize {
 }
 
 pub fn write(case: &Case) -> Bytes {
-    let mut out = Bytes { count: 0, bytes: [0; 160] };
+    let mut out = Bytes::new();
     out.push_word(case.applicants);
     out.push_word(case.workshops);
     for w in 0..case.workshops.min(4) {
@@ -77,5 +95,21 @@ pub fn write(case: &Case) -> Bytes {
     }
     out.push_lists(case);
     out.push_rows(case);
+    out
+}
+
+// The letter of an applicant that says a place in its list, or 255.
+pub fn letter(case: &Case, got: &Got, a: usize, place: usize) -> Bytes {
+    let mut out = Bytes::new();
+    let count = case.count_of(a).min(4);
+    out.push_word(a);
+    out.push_word(case.lot_of(a) as usize);
+    out.push(count as u8);
+    for k in 0..count {
+        if let Some(w) = case.wish(a, k) {
+            out.push_entry(case, got, w, a);
+        }
+    }
+    out.push((place & 255) as u8);
     out
 }

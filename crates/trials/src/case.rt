@@ -31,7 +31,11 @@ impl Case {
     }
 
     pub fn points_of(&self, w: usize, a: usize) -> u16 {
-        if w < 4 && a < 5 { self.points[w * 5 + a] } else { 0 }
+        if w < 4 && a < 5 {
+            self.points[w * 5 + a]
+        } else {
+            0
+        }
     }
 
     // What stands at a position of an applicant's list.
@@ -115,11 +119,17 @@ pub struct Got {
 
 impl Got {
     pub fn nothing() -> Got {
-        Got { workshops: [255; 5] }
+        Got {
+            workshops: [255; 5],
+        }
     }
 
     pub fn of(&self, a: usize) -> usize {
-        if a < 5 { self.workshops[a] as usize } else { NONE }
+        if a < 5 {
+            self.workshops[a] as usize
+        } else {
+            NONE
+        }
     }
 
     pub fn set(&mut self, a: usize, w: usize) {

@@ -1,9 +1,10 @@
-// Random small rounds: few points to choose from, so that many are equal; workshops that like those best who like them least, so
-// that there are several stable assignments; lots on both sides of a byte's end.
+// Random small rounds, of two shapes. Open ones: few points to choose from, so that many are equal, and any number of places.
+// Crossed ones: one place each, long lists, and workshops that like those best who like them least, so that there are several
+// stable assignments. Lots lie on both sides of a byte's end.
 use crate::case::Case;
 use crate::draw::Draw;
 
-fn blank(applicants: usize, workshops: usize) -> Case {
+pub fn blank(applicants: usize, workshops: usize) -> Case {
     Case {
         applicants,
         workshops,
@@ -52,10 +53,9 @@ fn draw_lots(case: &mut Case, draw: &mut Draw) {
     }
 }
 
-// Another list for one applicant: some of the workshops, none twice.
-pub fn draw_list(case: &mut Case, a: usize, draw: &mut Draw) {
+// Another list for one applicant: as many workshops as come up in the tries, none twice.
+pub fn draw_list(case: &mut Case, a: usize, tries: usize, draw: &mut Draw) {
     case.clear_list(a);
-    let tries = draw.below(9);
     for _ in 0..tries {
         let w = draw.below(case.workshops);
         if case.position(a, w).is_none() {
@@ -64,39 +64,56 @@ pub fn draw_list(case: &mut Case, a: usize, draw: &mut Draw) {
     }
 }
 
-fn some_points(case: &Case, w: usize, a: usize, kind: usize, draw: &mut Draw) -> u16 {
+// What an applicant is given at a workshop, 0 for no row, in one of four ways that differ in how many are equal.
+fn some_points(way: usize, draw: &mut Draw) -> u16 {
     if draw.below(7) == 0 {
         return 0;
     }
-    match kind {
+    match way {
         0 => 7,
         1 => 1 + (draw.below(2) & 1) as u16,
         2 => 254 + (draw.below(4) & 3) as u16,
-        3 => 65535 - (draw.below(1000) & 1023) as u16,
-        _ => 10 * (1 + (case.position(a, w).unwrap_or(4) & 7) as u16) + (draw.below(3) & 3) as u16,
+        _ => 65535 - (draw.below(1000) & 1023) as u16,
     }
 }
 
-fn draw_points(case: &mut Case, draw: &mut Draw) {
-    let kind = draw.below(8);
-    for w in 0..case.workshops {
-        for a in 0..case.applicants {
-            let points = some_points(case, w, a, kind, draw);
-            case.set_points(w, a, points);
+fn open_case(applicants: usize, workshops: usize, draw: &mut Draw) -> Case {
+    let mut case = blank(applicants, workshops);
+    draw_places(&mut case, draw);
+    let way = draw.below(4);
+    for a in 0..applicants {
+        let tries = draw.below(9);
+        draw_list(&mut case, a, tries, draw);
+        for w in 0..workshops {
+            case.set_points(w, a, some_points(way, draw));
         }
     }
+    case
+}
+
+// The later a workshop stands in the list, the more points; now and then as many as for the place before.
+fn crossed_case(size: usize, draw: &mut Draw) -> Case {
+    let mut case = blank(size, size);
+    for a in 0..size {
+        case.set_places(a, 1);
+        draw_list(&mut case, a, 10, draw);
+        for w in 0..size {
+            let position = case.position(a, w).unwrap_or(4) & 7;
+            case.set_points(w, a, (2 + 2 * position - (draw.below(3) & 1)) as u16);
+        }
+    }
+    case
 }
 
 pub fn draw_case(draw: &mut Draw) -> Case {
-    let applicants = draw.below(6).max(draw.below(6)).min(5);
+    let shape = draw.below(3);
+    let applicants = draw.below(6).max(draw.below(6));
     let workshops = draw.below(4).max(draw.below(4)).min(3) + 1;
-    let mut case = blank(applicants, workshops);
-    draw_places(&mut case, draw);
+    let mut case = match shape {
+        0 => crossed_case(workshops, draw),
+        _ => open_case(applicants, workshops, draw),
+    };
     draw_lots(&mut case, draw);
-    for a in 0..applicants {
-        draw_list(&mut case, a, draw);
-    }
-    draw_points(&mut case, draw);
     case
 }
 

@@ -2,6 +2,7 @@
 use crate::case::Case;
 use crate::case::Got;
 use crate::case::NONE;
+use crate::cut::last_at;
 use crate::draw::Draw;
 
 // Who got what, and how many list entries were asked.
@@ -107,20 +108,6 @@ fn free(case: &Case, asked: &State, got: &Got, draw: &mut Draw) -> Option<usize>
         }
     }
     None
-}
-
-// The one who goes behind all others on the bench of w.
-fn last_at(case: &Case, got: &Got, w: usize) -> Option<usize> {
-    let mut last = None;
-    for a in 0..5 {
-        if got.of(a) == w {
-            last = match last {
-                Some(b) => if case.ahead(w, a, b) { Some(b) } else { Some(a) },
-                None => Some(a),
-            };
-        }
-    }
-    last
 }
 
 // a sits down on the bench of w, and the last gets up where there are too many.
