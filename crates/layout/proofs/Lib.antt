@@ -1,0 +1,14 @@
+pub mod Firsts
+pub mod Flats
+pub mod Offsets
+pub mod Seen
+pub mod Clean
+pub mod Rows
+pub mod Told
+pub mod OfProper
+pub mod ReadProper
+pub mod Says
+pub mod Written
+pub mod Encoded
+pub mod Said
+pub mod RoundTrip
