@@ -3,6 +3,7 @@ mod bytes;
 mod case;
 mod cut;
 mod draw;
+mod letter;
 mod make;
 mod orders;
 mod program;
@@ -15,7 +16,7 @@ use draw::Draw;
 use std::io;
 use trial::Tally;
 
-const ROUNDS: u64 = 4000;
+const ROUNDS: u64 = 10000;
 
 // A round that did not pass: the check, the seed that gives it again, and its bytes.
 fn tell(rt: &LibcRuntime, check: &str, seed: u64, case: &Case) -> io::Result<()> {
@@ -78,10 +79,15 @@ fn tell_checks(rt: &LibcRuntime, tally: &Tally) -> io::Result<()> {
 fn tell_cuts(rt: &LibcRuntime, tally: &Tally) -> io::Result<()> {
     let cuts = tally.cuts;
     let first_reached = tally.first_reached;
+    let letters = tally.letters;
     println!(rt, "  a cut is the last who is kept, open or shut {cuts}")?;
     println!(
         rt,
         "  what was got is the first wish whose cut is reached {first_reached}"
+    )?;
+    println!(
+        rt,
+        "  of an applicant's letters the right one is accepted and no other {letters}"
     )
 }
 

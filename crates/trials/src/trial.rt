@@ -3,6 +3,7 @@ use crate::case::Case;
 use crate::cut;
 use crate::cut::CutPartialEq;
 use crate::draw::Draw;
+use crate::letter;
 use crate::make;
 use crate::orders;
 use crate::orders::Ended;
@@ -30,6 +31,7 @@ pub struct Tally {
     pub one_more: u32,
     pub cuts: u32,
     pub first_reached: u32,
+    pub letters: u32,
 }
 
 impl Tally {
@@ -51,6 +53,7 @@ impl Tally {
             one_more: 0,
             cuts: 0,
             first_reached: 0,
+            letters: 0,
         }
     }
 }
@@ -198,6 +201,11 @@ fn cuts(case: &Case, answer: &Answer, tally: &mut Tally) -> Result<(), &'static 
     for a in 0..case.applicants {
         let same = cut::place(case, &got, a) == cut::first_reached(case, &got, a);
         passed(&mut tally.first_reached, same, "first reached")?;
+        passed(
+            &mut tally.letters,
+            letter::are_judged_well(case, &got, a),
+            "letter",
+        )?;
     }
     Ok(())
 }
