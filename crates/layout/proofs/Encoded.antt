@@ -1,12 +1,12 @@
 -- The bytes that proper tables are written as say these tables.
-use mathlib.Core.Path.{_≡_, refl, sym, ap, ap₂, _∙_}
-use mathlib.Core.List.{List, [], _∷_, _++_}
+use mathlib.Core.Path.{_≡_, refl, sym, ap, _∙_}
+use mathlib.Core.List.{List, [], _++_}
 use Prim.Native.Nat.{ℕ, zero, suc, _+_, _-_, _*_, _/_, _%_, _≤_, _<_}
 use native.Mathlib.Omega.{arith}
 use native.Mathlib.Nat.{add-zero}
 use native.Mathlib.Numerals.{add-one}
-use lib.ListN.{length, getD, take, drop}
-use Rattle.std.proofs.shelf.Lists.{append-assoc, append-nil, length-append, length-take-le, length-drop, getD-take, getD-drop, getD-append-left, drop-at, drop-drop}
+use lib.ListN.{length, getD, drop}
+use Rattle.std.proofs.shelf.Lists.{append-nil, length-append, getD-drop, getD-append-left, drop-at, drop-drop}
 use Rattle.layout.specs.Slices.{table, flat}
 use Rattle.layout.specs.Tables.{Tables, Proper, applicants, workshops, rows, places-at, list-length, list-at}
 use Rattle.layout.specs.Bytes.{byte, word, applicants-in, workshops-in, places-from, record-at, lot-in, count-in, entry-in, rows-from, rows-in, row-at, row-workshop-in, row-applicant-in, row-points-in}

@@ -1,8 +1,8 @@
 -- Facts of proper tables: lists and rows lie within their tables, and what a list holds.
 use mathlib.Core.Path.{_≡_, _∙_}
-use Prim.Native.Nat.{ℕ, _+_, _-_, _≤_, _<_}
+use Prim.Native.Nat.{ℕ, _+_, _≤_, _<_}
 use native.Mathlib.Omega.{arith}
-use lib.ListN.{length, getD, take, drop}
+use lib.ListN.{length, getD, drop}
 use Rattle.std.proofs.shelf.Lists.{length-take-le, length-drop, getD-take, getD-drop}
 use Rattle.layout.specs.Tables.{Tables, Proper, applicants, workshops, rows, list-length, list-at}
 use Rattle.layout.proofs.Flats.{step-of}

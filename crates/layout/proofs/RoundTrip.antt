@@ -1,18 +1,16 @@
 -- Reading and writing are inverse to each other: what is read without a fault is proper and written as it was read, and what is
 -- written is read without a fault as it was.
-use mathlib.Core.Path.{_≡_, refl, sym, ap, subst, _∙_}
+use mathlib.Core.Path.{_≡_, refl, ap}
 use mathlib.Core.List.{List}
 use Prim.Native.Nat.{ℕ}
 use native.Mathlib.Omega.{arith}
 use Rattle.std.specs.declared.option.Option.{Option}
 use Rattle.std.specs.declared.option.Option.the-variants.{Some, None}
-use Rattle.std.specs.declared.result.Result.{Result}
-use Rattle.std.specs.declared.result.Result.the-variants.{Ok, Err}
+use Rattle.std.specs.declared.result.Result.the-variants.{Ok}
 use Rattle.layout.specs.Slices.{outcome}
 use Rattle.layout.specs.Tables.{Tables, Proper}
 use Rattle.layout.specs.Bytes.{fault, tables-in, decode}
-use Rattle.layout.specs.Encode.{encode, Bytes-only, As-written, All-as-written, Reads-back}
-use Rattle.layout.specs.declared.Refusal.{Refusal}
+use Rattle.layout.specs.Encode.{encode, Bytes-only, All-as-written, Reads-back}
 use Rattle.layout.proofs.Clean.{clean-from-none, none-from-clean}
 use Rattle.layout.proofs.ReadProper.{read-proper}
 use Rattle.layout.proofs.Says.{says-read}

@@ -1,16 +1,16 @@
 -- Bytes that say proper tables: the tables read from them are these, and they have no fault.
-use mathlib.Core.Path.{_≡_, refl, sym, ap, _∙_}
-use mathlib.Core.Logic.{_⊎_, inl, inr, ⊎-elim}
-use mathlib.Core.List.{List, [], _++_}
-use Prim.Native.Nat.{ℕ, zero, suc, _+_, _-_, _*_, _≤_, _<_}
+use mathlib.Core.Path.{_≡_, sym, _∙_}
+use mathlib.Core.Logic.{inl, inr, ⊎-elim}
+use mathlib.Core.List.{List, []}
+use Prim.Native.Nat.{ℕ, zero, suc, _+_, _≤_, _<_}
 use native.Mathlib.Omega.{arith}
 use native.Mathlib.Numerals.{add-one}
 use lib.ListN.{length, getD, drop}
 use Rattle.std.proofs.shelf.Lists.{append-nil, drop-all}
-use Rattle.std.proofs.shelf.Tests.{cases-lt, cases-eq}
-use Rattle.layout.specs.Slices.{table, flat}
-use Rattle.layout.specs.Tables.{Tables, Proper, applicants, workshops, rows, places-at, list-length, list-at}
-use Rattle.layout.specs.Bytes.{byte, applicants-in, workshops-in, places-from, lot-in, count-in, entry-in, rows-in, row-at, row-workshop-in, row-applicant-in, row-points-in, seats-before, start-of, rows-before, entries-below, tables-in}
+use Rattle.std.proofs.shelf.Tests.{cases-lt}
+use Rattle.layout.specs.Slices.{table}
+use Rattle.layout.specs.Tables.{Tables, Proper, applicants, workshops, rows, list-length, list-at}
+use Rattle.layout.specs.Bytes.{applicants-in, workshops-in, lot-in, count-in, entry-in, rows-in, row-workshop-in, row-applicant-in, row-points-in, seats-before, start-of, rows-before, entries-below, tables-in}
 use Rattle.layout.proofs.Flats.{is-table, drop-table, drop-is-flat}
 use Rattle.layout.proofs.Seen.{no-repeat-apart}
 use Rattle.layout.proofs.Clean.{Clean, After}
@@ -79,14 +79,23 @@ module _ (b : List ℕ) (t : Tables) (p : Proper t) (s : Says b t) where
   pub read-said : tables-in b ≡ t
   unfolding tables-in
   read-said =
+      let n-is = s .applicants-is in
       let m-is : length (t .seats) ≡ workshops-in b + 1 = omega (arith, s .workshops-is, p .limited .1) in
-      let seats = is-table (seats-before b) (t .seats) (workshops-in b + 1) 0 m-is (λ w l. sym (seats-are w (omega arith))) in
-      let lots = is-table (lot-in b) (t .lots) (applicants-in b) 0 (sym (s .applicants-is)) (λ a l. sym (s .lot-is a (omega (arith, s .applicants-is)))) in
-      let starts = is-table (start-of b) (t .starts) (applicants-in b + 1) 0 (omega (arith, p .started .0, s .applicants-is)) (λ a l. sym (starts-are a (omega (arith, s .applicants-is)))) in
-      let entries : entries-below b (applicants-in b) ≡ t .entries = rw (s .applicants-is) entries-are in
-      let row-starts = is-table (λ w. rows-before b w (rows-in b)) (t .row-starts) (workshops-in b + 1) 0 (omega (arith, p .sheeted .0)) (λ w l. sym (row-starts-are w (omega arith))) in
-      let row-applicants = is-table (row-applicant-in b) (t .row-applicants) (rows-in b) 0 (sym (s .rows-is)) (λ i l. sym (s .applicant-is i (omega (arith, s .rows-is)))) in
-      let row-points = is-table (row-points-in b) (t .row-points) (rows-in b) 0 (omega (arith, p .rowed .0, s .rows-is)) (λ i l. sym (s .points-is i (omega (arith, s .rows-is)))) in
+      let r-is = s .rows-is in
+      let n = applicants-in b in
+      let m = workshops-in b in
+      let r = rows-in b in
+      let seats = is-table (seats-before b) (t .seats) (m + 1) 0 m-is (λ w l. sym (seats-are w (omega arith))) in
+      let lots = is-table (lot-in b) (t .lots) n 0 (sym n-is) (λ a l. sym (s .lot-is a (omega arith))) in
+      let starts = is-table (start-of b) (t .starts) (n + 1) 0 (omega (arith, p .started .0)) (λ a l. sym (starts-are a (omega arith))) in
+      let entries : entries-below b n ≡ t .entries = rw n-is entries-are in
+      let row-starts =
+      is-table (λ w. rows-before b w r) (t .row-starts) (m + 1) 0 (omega (arith, p .sheeted .0)) (λ w l. sym (row-starts-are w (omega arith)))
+      in
+      let row-applicants = is-table (row-applicant-in b) (t .row-applicants) r 0 (sym r-is) (λ i l. sym (s .applicant-is i (omega arith))) in
+      let row-points =
+      is-table (row-points-in b) (t .row-points) r 0 (omega (arith, p .rowed .0)) (λ i l. sym (s .points-is i (omega arith)))
+      in
       λ i.
       record {
         seats = sym seats i;

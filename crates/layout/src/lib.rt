@@ -1,11 +1,12 @@
 // The words of the format: points, lots, the sizes of a round, and why something is refused. Code that reads and writes stands in
 // the crate above; what the bytes mean stands in specs/.
+ghost use mathlib.Core.Path.{_≡_};
+ghost use Rattle.layout.specs.Refusals.{number-of, place-of};
+
 mod laws;
 
 pub use laws::all_as_written;
 pub use laws::reads_back;
-ghost use mathlib.Core.Path.{_≡_};
-ghost use Rattle.layout.specs.Refusals.{number-of, place-of};
 
 // How many points a workshop gives an applicant.
 #[derive(Clone, Copy, PartialEq, Eq, Debug)]

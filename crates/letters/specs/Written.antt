@@ -21,6 +21,10 @@ use Rattle.letters.specs.declared.entry.Entry.{Entry}
 abbrev pub bench-in : Tables → List ℕ → ℕ → List ℕ
 bench-in t benches w = take (places-at t w) (drop (getD (t .seats) w 0) benches)
 
+-- the number of all seats
+abbrev pub all-seats : Tables → ℕ
+all-seats t = getD (t .seats) (workshops t) 0
+
 -- what a letter says of entry k, among the entries of all lists
 abbrev pub entry-from : Tables → List ℕ → List ℕ → ℕ → Entry
 entry-from t rows benches k =

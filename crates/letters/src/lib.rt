@@ -9,3 +9,5 @@ pub use check::entry_at;
 pub use entry::Entry;
 pub use entry::read_entry;
 pub use write::letter_len;
+pub use write::write_letter;
+pub use write::write_letters;

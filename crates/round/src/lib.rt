@@ -1,9 +1,75 @@
 // A small instance, proved: whom a programme keeps of two, when it has one place.
 ghost use mathlib.Core.Path.{_≡_};
+ghost use Rattle.round.specs.Laws.{Same-end, End-closed, Few-asks, End-stable, End-dearest, Same-numbers, One-more, Not-all-gain, No-gain};
 ghost use Rattle.round.specs.Places.{keep};
 
 pub fn keep_of(a: u32, b: u32, pa: u32, pb: u32) -> u32
     ensures { λ r. ⌜ r ≡ keep a b pa pb ⌝ }
 {
     if pa < pb { b } else { a }
+}
+
+// The theorems of deferred acceptance at every lawful market: each function's contract is one of them.
+
+// In any order, one by one or in groups, asking ends the same way and with as many asks.
+pub fn same_end() -> u8
+    ensures { λ _. ⌜ Same-end ⌝ }
+{
+    0
+}
+
+// Asking all together is one of these orders, and it ends with nobody turned down.
+pub fn end_closed() -> u8
+    ensures { λ _. ⌜ End-closed ⌝ }
+{
+    0
+}
+
+// There are at most as many asks as list entries.
+pub fn few_asks() -> u8
+    ensures { λ _. ⌜ Few-asks ⌝ }
+{
+    0
+}
+
+// The end is stable.
+pub fn end_stable() -> u8
+    ensures { λ _. ⌜ End-stable ⌝ }
+{
+    0
+}
+
+// No stable assignment gives anybody anything dearer than the end does.
+pub fn end_dearest() -> u8
+    ensures { λ _. ⌜ End-dearest ⌝ }
+{
+    0
+}
+
+// All stable assignments place the same applicants, and as many at each workshop.
+pub fn same_numbers() -> u8
+    ensures { λ _. ⌜ Same-numbers ⌝ }
+{
+    0
+}
+
+// One applicant more gets nobody else anything dearer.
+pub fn one_more() -> u8
+    ensures { λ _. ⌜ One-more ⌝ }
+{
+    0
+}
+
+// Of those who change their lists, not all get something dearer.
+pub fn not_all_gain() -> u8
+    ensures { λ _. ⌜ Not-all-gain ⌝ }
+{
+    0
+}
+
+// No list gets anybody anything dearer than its true list.
+pub fn no_gain() -> u8
+    ensures { λ _. ⌜ No-gain ⌝ }
+{
+    0
 }
