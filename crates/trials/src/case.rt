@@ -148,4 +148,9 @@ impl Got {
         }
         number
     }
+
+    // How many of the applicants are placed.
+    pub fn placed(&self) -> usize {
+        5usize.saturating_sub(self.number_at(NONE))
+    }
 }

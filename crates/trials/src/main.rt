@@ -80,6 +80,7 @@ fn tell_cuts(rt: &LibcRuntime, tally: &Tally) -> io::Result<()> {
     let cuts = tally.cuts;
     let first_reached = tally.first_reached;
     let letters = tally.letters;
+    let judged = tally.judged;
     println!(rt, "  a cut is the last who is kept, open or shut {cuts}")?;
     println!(
         rt,
@@ -87,7 +88,11 @@ fn tell_cuts(rt: &LibcRuntime, tally: &Tally) -> io::Result<()> {
     )?;
     println!(
         rt,
-        "  of an applicant's letters the right one is accepted and no other {letters}"
+        "  all letters of a round as the trials write them {letters}"
+    )?;
+    println!(
+        rt,
+        "  of an applicant's letters the right one is accepted and no other {judged}"
     )
 }
 

@@ -32,6 +32,7 @@ pub struct Tally {
     pub cuts: u32,
     pub first_reached: u32,
     pub letters: u32,
+    pub judged: u32,
 }
 
 impl Tally {
@@ -54,6 +55,7 @@ impl Tally {
             cuts: 0,
             first_reached: 0,
             letters: 0,
+            judged: 0,
         }
     }
 }
@@ -201,13 +203,10 @@ fn cuts(case: &Case, answer: &Answer, tally: &mut Tally) -> Result<(), &'static 
     for a in 0..case.applicants {
         let same = cut::place(case, &got, a) == cut::first_reached(case, &got, a);
         passed(&mut tally.first_reached, same, "first reached")?;
-        passed(
-            &mut tally.letters,
-            letter::are_judged_well(case, &got, a),
-            "letter",
-        )?;
+        let judged = letter::are_judged_well(case, &got, a);
+        passed(&mut tally.judged, judged, "letter judged")?;
     }
-    Ok(())
+    passed(&mut tally.letters, answer.letters, "letters")
 }
 
 fn has_ties(case: &Case) -> bool {
