@@ -48,19 +48,21 @@ module _ (b : List ℕ) (c : Clean b) where
 
   seated-read : Seated (tables-in b)
   unfolding seats-before
-  seated-read =
-      ( seats-at b 0 (omega arith)
-      , (λ w l. omega (arith, seats-at b w (omega (arith, same-workshops)), seats-at b (w + 1) (omega (arith, same-workshops)), seats-before-more b w))
-      , λ w l. omega (arith, c .few-places w (omega (arith, same-workshops)), seats-at b w (omega (arith, same-workshops)), seats-at b (w + 1) (omega (arith, same-workshops)), seats-before-more b w))
+  seated-read = (
+    seats-at b 0 (omega arith),
+    (λ w l. omega (arith, seats-at b w (omega (arith, same-workshops)), seats-at b (w + 1) (omega (arith, same-workshops)), seats-before-more b w)),
+    λ w l. omega (arith, c .few-places w (omega (arith, same-workshops)), seats-at b w (omega (arith, same-workshops)), seats-at b (w + 1) (omega (arith, same-workshops)), seats-before-more b w),
+  )
 
   started-read : Started (tables-in b)
   unfolding start-of
-  started-read =
-      ( omega (arith, length-starts b, length-lots b)
-      , starts-at b 0 (omega arith)
-      , (λ a l. omega (arith, starts-at b a (omega (arith, length-lots b)), starts-at b (a + 1) (omega (arith, length-lots b)), start-of-more b a))
-      , (λ a l. omega (arith, c .few-entries a (omega (arith, length-lots b)), starts-at b a (omega (arith, length-lots b)), starts-at b (a + 1) (omega (arith, length-lots b)), start-of-more b a))
-      , (rw (length-lots b) (starts-at b (applicants-in b) (omega arith) ∙ sym (length-entries b))))
+  started-read = (
+    omega (arith, length-starts b, length-lots b),
+    starts-at b 0 (omega arith),
+    (λ a l. omega (arith, starts-at b a (omega (arith, length-lots b)), starts-at b (a + 1) (omega (arith, length-lots b)), start-of-more b a)),
+    (λ a l. omega (arith, c .few-entries a (omega (arith, length-lots b)), starts-at b a (omega (arith, length-lots b)), starts-at b (a + 1) (omega (arith, length-lots b)), start-of-more b a)),
+    (rw (length-lots b) (starts-at b (applicants-in b) (omega arith) ∙ sym (length-entries b))),
+  )
 
   named-read : Named (tables-in b)
   unfolding start-of
@@ -76,8 +78,8 @@ module _ (b : List ℕ) (c : Clean b) where
       let la : a < applicants-in b = omega (arith, length-lots b) in
       apart-no-repeat (list-at (tables-in b) a)
       (λ i j h s e.
-        let lj : j < count-in b a = omega (arith, length-list b a la) in
-        c .entries-apart a i j la lj h (sym (list-told b a i la (omega arith)) ∙ e ∙ list-told b a j la lj))
+      let lj : j < count-in b a = omega (arith, length-list b a la) in
+      c .entries-apart a i j la lj h (sym (list-told b a i la (omega arith)) ∙ e ∙ list-told b a j la lj))
 
   drawn-read : Bytes-only b → Drawn (tables-in b)
   drawn-read small a l = omega (arith, lots-at b a (omega (arith, length-lots b)), word-small b small (record-at b a))
@@ -92,18 +94,20 @@ module _ (b : List ℕ) (c : Clean b) where
       grind arith
 
   sheeted-read : Sheeted (tables-in b)
-  sheeted-read =
-      ( omega (arith, length-row-starts b, length-seats b)
-      , (row-starts-at b 0 (omega arith) ∙ rows-before-none b (rows-in b))
-      , (λ w l. omega (arith, row-starts-at b w (omega (arith, same-workshops)), row-starts-at b (w + 1) (omega (arith, same-workshops)), rows-before-up b w (w + 1) (rows-in b) (omega arith)))
-      , (rw same-workshops (row-starts-at b (workshops-in b) (omega arith) ∙ rows-before-all b (workshops-in b) (rows-in b) (c .rows-workshop) ∙ sym (length-row-applicants b))))
+  sheeted-read = (
+    omega (arith, length-row-starts b, length-seats b),
+    (row-starts-at b 0 (omega arith) ∙ rows-before-none b (rows-in b)),
+    (λ w l. omega (arith, row-starts-at b w (omega (arith, same-workshops)), row-starts-at b (w + 1) (omega (arith, same-workshops)), rows-before-up b w (w + 1) (rows-in b) (omega arith))),
+    (rw same-workshops (row-starts-at b (workshops-in b) (omega arith) ∙ rows-before-all b (workshops-in b) (rows-in b) (c .rows-workshop) ∙ sym (length-row-applicants b))),
+  )
 
   rowed-read : Bytes-only b → Rowed (tables-in b)
-  rowed-read small =
-      ( omega (arith, length-row-points b, length-row-applicants b)
-      , (λ i l. omega (arith, length-lots b, row-applicants-at b i (omega (arith, length-row-applicants b)), c .rows-applicant i (omega (arith, length-row-applicants b))))
-      , (λ i l. omega (arith, row-points-at b i (omega (arith, length-row-applicants b)), c .rows-points i (omega (arith, length-row-applicants b))))
-      , λ i l. omega (arith, row-points-at b i (omega (arith, length-row-applicants b)), word-small b small (row-at b i + 3)))
+  rowed-read small = (
+    omega (arith, length-row-points b, length-row-applicants b),
+    (λ i l. omega (arith, length-lots b, row-applicants-at b i (omega (arith, length-row-applicants b)), c .rows-applicant i (omega (arith, length-row-applicants b)))),
+    (λ i l. omega (arith, row-points-at b i (omega (arith, length-row-applicants b)), c .rows-points i (omega (arith, length-row-applicants b)))),
+    λ i l. omega (arith, row-points-at b i (omega (arith, length-row-applicants b)), word-small b small (row-at b i + 3)),
+  )
 
   sorted-read : Sorted (tables-in b)
   sorted-read w i (l, low, high) =

@@ -17,10 +17,18 @@ pub fn push_head(text: &mut String, asks: usize, placed: usize) -> Result<(), Al
 }
 
 // An applicant that has a place, where it has it, and the how manieth wish that is.
-pub fn push_placed(text: &mut String, applicant: usize, workshop: u16, wish: usize) -> Result<(), AllocError>
+pub fn push_placed(
+    text: &mut String,
+    applicant: usize,
+    workshop: u16,
+    wish: usize,
+) -> Result<(), AllocError>
     ensures { λ r. ⌜ made r (λ _. string-bytes (now (text .exit)) ≡ string-bytes (now (text .entry)) ++ placed-line applicant workshop wish) ⌝ }
 {
-    match write!(text, "applicant {applicant} workshop {workshop} wish {wish}\n") {
+    match write!(
+        text,
+        "applicant {applicant} workshop {workshop} wish {wish}\n"
+    ) {
         Ok(()) => Ok(()),
         Err(_) => Err(AllocError),
     }

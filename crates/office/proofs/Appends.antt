@@ -1,0 +1,15 @@
+-- Lines put one after the other behind a text.
+use mathlib.Core.Path.{_≡_, refl, sym, ap, _∙_}
+use mathlib.Core.List.{List, _++_, append-nil, append-assoc}
+use Prim.Native.Nat.{ℕ, _+_}
+use Rattle.layout.specs.Slices.{flat}
+use Rattle.layout.proofs.Flats.{flat-more}
+
+module _ (f : ℕ → List ℕ) (old : List ℕ) where
+  pub lines-none : old ≡ old ++ flat f 0
+  unfolding flat
+  lines-none = sym (append-nil old)
+
+  pub lines-more : (was now : List ℕ) (i : ℕ) → was ≡ old ++ flat f i → now ≡ was ++ f i → now ≡ old ++ flat f (i + 1)
+  lines-more was now i before after =
+      after ∙ ap (λ (x : List ℕ). x ++ f i) before ∙ append-assoc old (flat f i) (f i) ∙ sym (ap (λ (x : List ℕ). old ++ x) (flat-more f i))

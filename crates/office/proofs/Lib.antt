@@ -1,0 +1,4 @@
+-- Lemmas for the whole program.
+pub mod Told
+pub mod Holding
+pub mod Appends
