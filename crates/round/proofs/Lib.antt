@@ -6,3 +6,15 @@ pub mod Stability
 pub mod Newcomer
 pub mod Coalition
 pub mod Theorems
+-- Rounds: the way of keeping by points, the given step-by-step definitions, the given statements.
+pub mod Worth
+pub mod Best
+pub mod Ranks
+pub mod Ending
+pub mod Bridge
+pub mod Same
+pub mod Promised
+pub mod Orders
+pub mod Cuts
+pub mod Rounds
+pub mod Judging

@@ -73,3 +73,25 @@ pub fn no_gain() -> u8
 {
     0
 }
+
+// What is promised of every round: the given statements and those beyond them.
+mod given;
+
+pub use given::all_proper;
+pub use given::all_together;
+pub use given::any_order;
+pub use given::best_stable;
+pub use given::by_market;
+pub use given::by_points;
+pub use given::first_reached;
+pub use given::has_cuts;
+pub use given::more_applicants;
+pub use given::not_all_liars_gain;
+pub use given::reached_cut;
+pub use given::readable;
+pub use given::same_left;
+pub use given::same_stable;
+pub use given::steps_end;
+pub use given::told_apart;
+pub use given::truthful;
+pub use given::worked_out;
