@@ -8,7 +8,7 @@ use native.Mathlib.Omega.{arith}
 use native.Mathlib.Numerals.{add-one}
 use lib.ListN.{length, getD, take, drop}
 use Rattle.std.proofs.shelf.Counted.{length-map-counting, getD-map-counting, map-counting-more, take-map-counting, fill-by-all}
-use Rattle.std.proofs.shelf.Lists.{append-assoc, length-append, length-take-le, length-drop, take-append-drop, take-append-le, take-all, drop-at, drop-drop, getD-drop, getD-take, getD-append-left}
+use Rattle.std.proofs.shelf.Lists.{append-assoc, length-append, length-take-le, length-drop, take-append-drop, take-append-le, take-all, drop-at, drop-drop, drop-append-le, getD-drop, getD-take, getD-append-left}
 use Rattle.std.proofs.shelf.Tests.{cases-lt}
 use Rattle.layout.specs.Slices.{table, flat}
 
@@ -102,6 +102,22 @@ module _ (f : ℕ → List ℕ) where
       drop-is-flat b at n (λ k l. each k (omega arith))
       ∙ ap (λ (x : List ℕ). flat f n ++ x) (rw (add-one n) at (each n (omega arith)))
       ∙ sym (append-assoc (flat f n) (f n) (drop (at (suc n)) b))
+
+-- lists one after the other, list k at `g k`, with more behind them
+module _ (f : ℕ → List ℕ) (g : ℕ → ℕ) (n : ℕ) (none : g 0 ≡ 0) (more : (k : ℕ) → k < n → g (k + 1) ≡ g k + length (f k)) (behind : List ℕ) where
+  pub drop-flat-at : (k : ℕ) → k < n → (rest : List ℕ) × (drop (g k) (flat f n ++ behind) ≡ f k ++ rest)
+  drop-flat-at k l =
+      let len = length-flat f g k none (λ j h. more j (omega arith)) in
+      let within : g k ≤ length (flat f n) = omega (arith, length-flat-mono f k n (omega arith)) in
+      let after = drop (length (flat f (k + 1))) (flat f n) in (
+        after ++ behind,
+        (drop-append-le (g k) (flat f n) behind within
+            ∙ ap (λ (x : List ℕ). x ++ behind) (rw len at (drop-flat f n k l))
+            ∙ append-assoc (f k) after behind),
+      )
+
+  pub drop-flat-all : drop (g n) (flat f n ++ behind) ≡ behind
+  drop-flat-all = drop-at (flat f n) behind (g n) (length-flat f g n none more)
 
 pub flat-same : (f g : ℕ → List ℕ) (n : ℕ) → ((k : ℕ) → k < n → f k ≡ g k) → flat f n ≡ flat g n
 unfolding flat

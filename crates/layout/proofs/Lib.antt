@@ -5,4 +5,8 @@ pub mod Seen
 pub mod Clean
 pub mod Rows
 pub mod Told
+pub mod OfProper
 pub mod ReadProper
+pub mod Says
+pub mod Written
+pub mod Encoded
