@@ -3,10 +3,10 @@
 use mathlib.Core.Bool.{cond}
 use mathlib.Core.List.{List}
 use Prim.Native.Nat.{ℕ, zero, suc, _+_, _-_}
-use lib.Dec.{eqb}
+use lib.Dec.{eqb, ltb}
 use lib.ListN.{length, getD}
 use Rattle.layout.specs.Slices.{table, flat}
-use Rattle.layout.specs.Tables.{Tables, applicants, workshops, places-at, list-length, list-at}
+use Rattle.layout.specs.Tables.{Tables, applicants, workshops, rows, places-at, list-length, list-at}
 use Rattle.round.specs.Places as places
 use Rattle.round.specs.Market.{Market}
 use Rattle.round.specs.ByPoints.{worth-of, market-of}
@@ -31,12 +31,12 @@ rows-of-list t a = table (λ j. row-of t (getD (list-at t a) j 0) a) (list-lengt
 unfoldable pub rows-found : Tables → List ℕ
 rows-found t = flat (rows-of-list t) (applicants t)
 
--- the points and the lot of a row; no row has 0 points
+-- the points and the lot of a row; 0 and 0 for a number that is no row
 abbrev pub points-of-row : Tables → ℕ → ℕ
 points-of-row t i = getD (t .row-points) i 0
 
 abbrev pub lot-of-row : Tables → ℕ → ℕ
-lot-of-row t i = getD (t .lots) (getD (t .row-applicants) i 0) 0
+lot-of-row t i = cond (ltb i (rows t)) (getD (t .lots) (getD (t .row-applicants) i 0) 0) 0
 
 -- one number for points and lot, by which rows are ordered: 0 for no row
 unfoldable pub row-worth : Tables → ℕ → ℕ

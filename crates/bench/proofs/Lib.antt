@@ -1,0 +1,2 @@
+-- Lemmas over the definitions of specs/.
+pub mod Shift

@@ -1,0 +1,9 @@
+// Letters: what the office tells each applicant, as bytes, and the checker that reads one alone.
+mod check;
+mod entry;
+
+pub use check::Verdict;
+pub use check::check_letter;
+pub use check::entry_at;
+pub use entry::Entry;
+pub use entry::read_entry;

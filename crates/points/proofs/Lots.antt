@@ -1,0 +1,38 @@
+-- A read round's tables are proper; lots are small enough for worths to order by them.
+use mathlib.Core.Path.{_≡_}
+use mathlib.Core.Logic.{_≢_}
+use Prim.Native.Nat.{ℕ, _<_}
+use native.Mathlib.Omega.{arith}
+use denote.Ref.{now}
+use lib.Dec.{ltb}
+use Rattle.std.proofs.shelf.Tests.{cond-both, ltb-true}
+use Rattle.std.proofs.shelf.Ways.{tells}
+use Rattle.round.specs.ByPoints.{worth-of}
+use Rattle.layout.specs.Tables.{Tables, Proper, rows}
+use Rattle.codec.specs.declared.tables.Round.{Round}
+use Rattle.codec.specs.Rounds.{tables-of}
+use Rattle.points.specs.Standing.{lot-of-row}
+
+pub tables-proper : (r : Round) → Proper (tables-of r)
+tables-proper r =
+    record {
+      limited = r .limited;
+      seated = r .seated;
+      started = r .started;
+      named = r .named;
+      distinct = r .distinct;
+      drawn = r .drawn;
+      apart = r .apart;
+      sheeted = r .sheeted;
+      rowed = r .rowed;
+      sorted = r .sorted;
+    }
+
+pub lot-small : (t : Tables) → Proper t → (i : ℕ) → lot-of-row t i < 65536
+lot-small t good i =
+    cond-both (ltb i (rows t)) _ 0 (λ x. x < 65536) (λ e. good .drawn _ (good .rowed .1 i (ltb-true i (rows t) e))) (λ e. omega arith)
+
+-- of two with different points the lots do not matter
+pub ltb-worth-of : (p q l k : ℕ) → l < 65536 → k < 65536 → p ≢ q → ltb q p ≡ ltb (worth-of q k) (worth-of p l)
+unfolding worth-of
+ltb-worth-of p q l k hl hk ne = grind (arith, tells)
