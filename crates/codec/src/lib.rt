@@ -1,5 +1,12 @@
 // Reading and writing the bytes of a round.
+mod bytes;
+mod judge;
 mod tables;
 mod view;
 
+pub use judge::MOST_APPLICANTS;
+pub use judge::MOST_ENTRIES;
+pub use judge::MOST_PLACES;
+pub use judge::MOST_ROWS;
+pub use judge::MOST_WORKSHOPS;
 pub use tables::Round;
