@@ -91,7 +91,12 @@ fn judge_list(bytes: &[u8], at: usize, workshops: usize) -> Result<usize, Refusa
 }
 
 // The records of the applicants, which begin at `from`. What stands behind them begins at the answer.
-fn judge_records(bytes: &[u8], from: usize, applicants: usize, workshops: usize) -> Result<usize, Refusal>
+fn judge_records(
+    bytes: &[u8],
+    from: usize,
+    applicants: usize,
+    workshops: usize,
+) -> Result<usize, Refusal>
     requires place { ⌜ from ≡ record-at (now bytes) 0 ⌝ }
     requires size { ⌜ workshops ≡ workshops-in (now bytes) ⌝ }
     requires within { ⌜ from ≤ length (now bytes) ⌝ }
@@ -117,7 +122,13 @@ fn judge_records(bytes: &[u8], from: usize, applicants: usize, workshops: usize)
 }
 
 // The row at `at`, which may not come before `least`. The next row may not come before the answer.
-fn judge_row(bytes: &[u8], at: usize, applicants: usize, workshops: usize, least: Mark) -> Result<Mark, Refusal>
+fn judge_row(
+    bytes: &[u8],
+    at: usize,
+    applicants: usize,
+    workshops: usize,
+    least: Mark,
+) -> Result<Mark, Refusal>
     ensures answer { λ r. ⌜ r ≡ outcome (row-fault-at (now (bytes .entry)) applicants workshops (least .workshop) (least .applicant) at) (record { workshop = byte (now (bytes .entry)) at; applicant = word (now (bytes .entry)) (at + 1) + 1 }) ⌝ }
     ensures within { λ r. ⌜ made r (λ _. at + 5 ≤ length (now (bytes .entry))) ⌝ }
 {
@@ -144,11 +155,20 @@ fn judge_row(bytes: &[u8], at: usize, applicants: usize, workshops: usize, least
     if workshop < least.workshop || workshop == least.workshop && applicant < least.applicant {
         return Err(Refusal::RowOrder(at));
     }
-    Ok(Mark { workshop, applicant: applicant + 1 })
+    Ok(Mark {
+        workshop,
+        applicant: applicant + 1,
+    })
 }
 
 // The rows of the point sheets, which begin at `from`. What stands behind them begins at the answer.
-fn judge_rows(bytes: &[u8], from: usize, rows: usize, applicants: usize, workshops: usize) -> Result<usize, Refusal>
+fn judge_rows(
+    bytes: &[u8],
+    from: usize,
+    rows: usize,
+    applicants: usize,
+    workshops: usize,
+) -> Result<usize, Refusal>
     requires place { ⌜ from ≡ row-at (now bytes) 0 ⌝ }
     requires many { ⌜ applicants ≡ applicants-in (now bytes) ⌝ }
     requires size { ⌜ workshops ≡ workshops-in (now bytes) ⌝ }
@@ -156,7 +176,10 @@ fn judge_rows(bytes: &[u8], from: usize, rows: usize, applicants: usize, worksho
     ensures answer { λ r. ⌜ r ≡ outcome (first-of (row-fault (now (bytes .entry))) rows) (row-at (now (bytes .entry)) rows) ⌝ }
     ensures within { λ r. ⌜ made r (λ q. q ≤ length (now (bytes .entry))) ⌝ }
 {
-    let mut least = Mark { workshop: 0, applicant: 0 };
+    let mut least = Mark {
+        workshop: 0,
+        applicant: 0,
+    };
     let mut at = from;
     for i in 0..rows {
         least = match judge_row(bytes, at, applicants, workshops, least) {

@@ -2,3 +2,4 @@
 pub mod Told
 pub mod Holding
 pub mod Appends
+pub mod Entries

@@ -1,3 +1,5 @@
 pub mod Text
+pub mod Words
+pub mod Faults
 pub mod Owned
 pub mod Settling

@@ -1,4 +1,4 @@
--- The printed texts, byte by byte. A line ends with the byte 10. Definitions only.
+-- What is printed of a round, byte by byte. A line ends with the byte 10. Definitions only.
 use mathlib.Core.Bool.{cond}
 use mathlib.Core.List.{List, [], _∷_, _++_}
 use Prim.Native.Nat.{ℕ, _+_}
@@ -10,6 +10,8 @@ use Rattle.layout.specs.Tables.{Tables, applicants, workshops}
 use Rattle.layout.specs.declared.Refusal.{Refusal}
 use Rattle.round.specs.Market.{Market, final, placed-at, got, asks, placed}
 use Rattle.points.specs.Standing.{market}
+use Rattle.cuts.specs.declared.Cut.{Cut}
+use Rattle.cuts.specs.declared.Cut.the-variants.{Open, Shut, Full}
 
 abbrev pub newline : List ℕ
 newline = 10 ∷ []
@@ -31,6 +33,19 @@ placed-line a w wish =
 unfoldable pub none-line : ℕ → List ℕ
 none-line a = codes "applicant " ++ (decimal a ++ (codes " none" ++ newline))
 
--- what a was told; wishes count from 1
+-- what a got; wishes count from 1
 unfoldable pub applicant-line : Market → ℕ → List ℕ
 applicant-line k a = cond (placed-at k (final k) a) (placed-line a (got k a) (final k a + 1)) (none-line a)
+
+-- a cut: 30 lot 2, open, or shut
+unfoldable pub full-words : ℕ → ℕ → List ℕ
+full-words points lot = decimal points ++ (codes " lot " ++ decimal lot)
+
+abbrev pub cut-words : Cut → List ℕ
+cut-words Open = codes "open"
+cut-words Shut = codes "shut"
+cut-words (Full points lot) = full-words (points .0) (lot .0)
+
+-- cut 0 30 lot 2
+unfoldable pub cut-line : ℕ → Cut → List ℕ
+cut-line w c = (codes "cut " ++ (decimal w ++ codes " ")) ++ (cut-words c ++ newline)

@@ -31,10 +31,10 @@ returns-then-entry-workshops c =
     let n = got-there _ _ _ _ _ (c .in-Some .ensures tt) in
     let g = got-there _ _ _ _ _ (c .in-Some-byte-at .ensures tt) in
     let f : entry-fault-at b (c .args .workshops) (c .args .at) (c .loop-j .j) ≡ Some (BadEntry (c .args .at + 3 + c .loop-j .j)) =
-        elim (c .then-entry-workshops .came)
-        [ then-entry-workshops·by·then-entry-workshops w ↦ grind (arith, tells)
-        | then-entry-workshops·by·else-entry-workshops·then-stands-in w ↦ grind (arith, tells)
-        ]
+    elim (c .then-entry-workshops .came) [
+      | then-entry-workshops·by·then-entry-workshops w ↦ grind (arith, tells)
+      | then-entry-workshops·by·else-entry-workshops·then-stands-in w ↦ grind (arith, tells)
+    ]
     in
     let s = list-refused b _ _ _ _ (omega arith) (omega arith) (omega arith) (c .loop-j .inv .1) f in
     record { answer = grind arith; within = tt }

@@ -22,10 +22,10 @@ loop-i-again c =
     let b = c .args .bytes .now in
     let v = c .loop-i .inv in
     let n = none-from-ok _ _ _ (c .in-Ok .ensures tt .answer) in
-    let f = row-fault-is _ _ _ _ _ _ _ (c .pre .many) (c .pre .size) (v .3) (v .4) (v .0) ∙ n .0 in
-    ( omega arith
-    , c .in-Ok .ensures tt .within
-    , first-of-more _ _ (v .2) f
-    , sym (ap (λ (x : Mark). x .workshop) (n .1)) ∙ (ap (λ (x : ℕ). byte b x) (v .0) ∙ sym (least-workshop-more b (c .loop-i .i)))
-    , sym (ap (λ (x : Mark). x .applicant) (n .1)) ∙ (ap (λ (x : ℕ). word b (x + 1) + 1) (v .0) ∙ sym (least-applicant-more b (c .loop-i .i)))
+    let f = row-fault-is _ _ _ _ _ _ _ (c .pre .many) (c .pre .size) (v .3) (v .4) (v .0) ∙ n .0 in (
+      omega arith,
+      c .in-Ok .ensures tt .within,
+      first-of-more _ _ (v .2) f,
+      sym (ap (λ (x : Mark). x .workshop) (n .1)) ∙ (ap (λ (x : ℕ). byte b x) (v .0) ∙ sym (least-workshop-more b (c .loop-i .i))),
+      sym (ap (λ (x : Mark). x .applicant) (n .1)) ∙ (ap (λ (x : ℕ). word b (x + 1) + 1) (v .0) ∙ sym (least-applicant-more b (c .loop-i .i))),
     )
