@@ -1,21 +1,18 @@
 -- Bytes without a fault, as facts about their numbers in place of tests: the two say the same.
-use mathlib.Core.Path.{_≡_, refl, sym, _∙_}
-use mathlib.Core.Logic.{_⊎_, inl, inr, ⊎-elim}
-use mathlib.Core.Bool.{true, false, not, _||_, _&&_}
+use mathlib.Core.Path.{_≡_, refl}
+use mathlib.Core.Logic.{_⊎_}
+use mathlib.Core.Bool.{false}
 use mathlib.Core.List.{List}
-use Prim.Native.Nat.{ℕ, zero, suc, _+_, _*_, _≤_, _<_}
+use Prim.Native.Nat.{ℕ, zero, suc, _+_, _≤_, _<_}
 use native.Mathlib.Omega.{arith}
 use native.Mathlib.Numerals.{add-one}
-use lib.Dec.{eqb, ltb, leb}
 use lib.ListN.{length}
 use Rattle.std.specs.declared.option.Option.the-variants.{None}
-use Rattle.std.proofs.shelf.Tests.{ltb-false, leb-false, eqb-false, le-ltb, lt-leb, ne-eqb, or-parts, or-from}
 use Rattle.std.proofs.shelf.Ways.{tells, not-from-decides}
-use Rattle.layout.specs.Slices.{or-else}
 use Rattle.layout.specs.Tables.{most-applicants, most-workshops, most-places, most-entries, most-rows}
-use Rattle.layout.specs.Bytes.{byte, applicants-in, workshops-in, places-from, record-at, lot-in, count-in, entry-in, rows-from, rows-in, row-at, row-workshop-in, row-applicant-in, row-points-in, first-of, head-fault, places-fault, lot-seen, entry-seen, entry-fault, record-fault, rows-fault, out-of-order, row-fault, end-fault, fault}
-use Rattle.layout.proofs.Firsts.{or-else-none, none-or-else, refuse-none, none-refuse, missing-none, none-missing, first-of-none, none-first-of}
-use Rattle.layout.proofs.Offsets.{record-at-none, record-at-more, record-at-mono}
+use Rattle.layout.specs.Bytes.{byte, applicants-in, workshops-in, places-from, lot-in, count-in, entry-in, rows-from, rows-in, row-at, row-workshop-in, row-applicant-in, row-points-in, first-of, head-fault, places-fault, lot-seen, entry-seen, entry-fault, record-fault, rows-fault, out-of-order, row-fault, end-fault, fault}
+use Rattle.layout.proofs.Firsts.{or-else-none, none-or-else, first-of-none, none-first-of}
+use Rattle.layout.proofs.Offsets.{record-at-none, record-at-mono, record-there}
 use Rattle.layout.proofs.Seen.{false-from-decides, lot-seen-decides, entry-seen-decides}
 
 -- row i + 1 comes after row i: by workshop, then by applicant
@@ -59,18 +56,17 @@ module _ (b : List ℕ) where
   entry-clean : (a j : ℕ) → entry-fault b a j ≡ None →
       (entry-in b a j < workshops-in b) × ((i : ℕ) → i < j → entry-in b a i ≡ entry-in b a j → ⊥)
   entry-clean a j h =
-      let bad = or-parts (leb (workshops-in b) (entry-in b a j)) (entry-seen b a (entry-in b a j) j) (refuse-none _ _ (or-else-none _ _ h .1)) in (
-        leb-false (workshops-in b) (entry-in b a j) (bad .0),
-        λ i l e. not-from-decides _ (entry-seen-decides b a (entry-in b a j) j) (bad .1) (i, l, e),
-      )
+      let unseen : entry-seen b a (entry-in b a j) j ≡ false = grind arith in
+      (grind (arith, tells), λ i l e. not-from-decides _ (entry-seen-decides b a (entry-in b a j) j) unseen (i, l, e))
 
   record-clean : (a : ℕ) → record-fault b a ≡ None → Clean-record b a
   record-clean a h =
-      let lot : (lot-seen b (lot-in b a) a ≡ false) × (ltb most-entries (count-in b a) ≡ false) × (first-of (entry-fault b a) (count-in b a) ≡ None) = (grind arith, grind arith, grind arith) in
+      let unseen : lot-seen b (lot-in b a) a ≡ false = grind arith in
+      let entries : first-of (entry-fault b a) (count-in b a) ≡ None = grind arith in
       record {
-        lot-apart = λ c l e. not-from-decides _ (lot-seen-decides b (lot-in b a) a) (lot .0) (c, l, e);
-        few = ltb-false most-entries (count-in b a) (lot .1);
-        each = λ j l. entry-clean a j (first-of-none (entry-fault b a) (count-in b a) (lot .2) j l);
+        lot-apart = λ c l e. not-from-decides _ (lot-seen-decides b (lot-in b a) a) unseen (c, l, e);
+        few = grind (arith, tells);
+        each = λ j l. entry-clean a j (first-of-none (entry-fault b a) (count-in b a) entries j l);
       }
 
   row-clean : (i : ℕ) → row-fault b i ≡ None → Clean-row b i
@@ -113,7 +109,9 @@ module _ (b : List ℕ) where
   clean-from-none h =
       let p = parts h in
       let head = p .0 in
-      let records : (a : ℕ) → a < applicants-in b → Clean-record b a = λ a l. record-clean a (first-of-none (record-fault b) (applicants-in b) (p .2) a l) in
+      let records : (a : ℕ) → a < applicants-in b → Clean-record b a =
+      λ a l. record-clean a (first-of-none (record-fault b) (applicants-in b) (p .2) a l)
+      in
       let rows : (i : ℕ) → i < rows-in b → Clean-row b i = λ i l. row-clean i (first-of-none (row-fault b) (rows-in b) (p .4) i l) in
       record {
         few-applicants = grind (arith, tells);
@@ -136,15 +134,12 @@ module _ (b : List ℕ) where
             grind (arith, tells);
       }
 
-  -- To no fault. All parts of a record are there, where the whole is.
-  record-there : Clean b → (a : ℕ) → a < applicants-in b → record-at b a + 3 + count-in b a ≤ length b
-  record-there c a l = omega (arith, record-at-more b a, record-at-mono b (a + 1) (applicants-in b) (omega arith), c .whole)
-
+  -- To no fault.
   entry-none : Clean b → (a j : ℕ) → a < applicants-in b → j < count-in b a → entry-fault b a j ≡ None
   entry-none c a j l k =
       let seen = false-from-decides _ (entry-seen-decides b a (entry-in b a j) j) (λ s. c .entries-apart a (s .0) j l k (s .1) (s .2)) in
       let named = c .entries-named a j l k in
-      let there = record-there c a l in
+      let there = record-there b (c .whole) a l in
       grind (arith, tells)
 
   record-none : Clean b → (a : ℕ) → a < applicants-in b → record-fault b a ≡ None
@@ -152,7 +147,7 @@ module _ (b : List ℕ) where
       let seen = false-from-decides _ (lot-seen-decides b (lot-in b a) a) (λ s. c .lots-apart a (s .0) l (s .1) (s .2)) in
       let entries = none-first-of (entry-fault b a) (count-in b a) (λ j k. entry-none c a j l k) in
       let few = c .few-entries a l in
-      let there = record-there c a l in
+      let there = record-there b (c .whole) a l in
       grind (arith, tells)
 
   order-none : (i : ℕ) → After b i → out-of-order b (suc i) ≡ false

@@ -1,19 +1,18 @@
--- The bytes that proper tables are written as say these tables, and are clean.
-use mathlib.Core.Path.{_≡_, refl, sym, ap, ap₂, _∙_}
-use mathlib.Core.List.{List, [], _∷_, _++_}
+-- The bytes that proper tables are written as say these tables.
+use mathlib.Core.Path.{_≡_, refl, sym, ap, _∙_}
+use mathlib.Core.List.{List, [], _++_}
 use Prim.Native.Nat.{ℕ, zero, suc, _+_, _-_, _*_, _/_, _%_, _≤_, _<_}
 use native.Mathlib.Omega.{arith}
 use native.Mathlib.Nat.{add-zero}
 use native.Mathlib.Numerals.{add-one}
-use lib.ListN.{length, getD, take, drop}
-use Rattle.std.proofs.shelf.Lists.{append-assoc, append-nil, length-append, length-take-le, length-drop, getD-take, getD-drop, getD-append-left, drop-at, drop-drop}
+use lib.ListN.{length, getD, drop}
+use Rattle.std.proofs.shelf.Lists.{append-nil, length-append, getD-drop, getD-append-left, drop-at, drop-drop}
 use Rattle.layout.specs.Slices.{table, flat}
 use Rattle.layout.specs.Tables.{Tables, Proper, applicants, workshops, rows, places-at, list-length, list-at}
 use Rattle.layout.specs.Bytes.{byte, word, applicants-in, workshops-in, places-from, record-at, lot-in, count-in, entry-in, rows-from, rows-in, row-at, row-workshop-in, row-applicant-in, row-points-in}
 use Rattle.layout.specs.Encode.{two-bytes, record-bytes, row-bytes, sheet-bytes, encode}
-use Rattle.layout.proofs.Flats.{length-table, getD-table, length-flat, drop-flat-at, drop-flat-all, step-of}
-use Rattle.layout.proofs.Offsets.{record-at-none}
-use Rattle.layout.proofs.OfProper.{length-list-at, getD-list-at, row-starts-within}
+use Rattle.layout.proofs.Flats.{length-table, getD-table, length-flat, drop-flat-at, drop-flat-all}
+use Rattle.layout.proofs.OfProper.{length-list-at, getD-list-at, sheet-of}
 use Rattle.layout.proofs.Says.{Says}
 
 -- what stands k behind p
@@ -162,18 +161,14 @@ module _ (t : Tables) (p : Proper t) where
   workshop-in-encode w i l low high =
       rw add-zero at (byte-behind (encode t) (row-at (encode t) i) 0 _ (at-row w i l low high .1))
 
-  -- the workshop of row i
-  sheet-of : (i : ℕ) → i < rows t → (w : ℕ) × (w < workshops t) × (getD (t .row-starts) w 0 ≤ i) × (i < getD (t .row-starts) (w + 1) 0)
-  sheet-of i l = step-of (λ w. getD (t .row-starts) w 0) (workshops t) i (p .sheeted .1) (omega (arith, p .sheeted .3))
-
   applicant-in-encode : (i : ℕ) → i < rows t → row-applicant-in (encode t) i ≡ getD (t .row-applicants) i 0
   applicant-in-encode i l =
-      let (w, lw, low, high) = sheet-of i l in
+      let (w, lw, low, high) = sheet-of t p i l in
       word-behind (encode t) (row-at (encode t) i) 1 (getD (t .row-applicants) i 0) _ _ (at-row w i lw low high .1) refl
 
   points-in-encode : (i : ℕ) → i < rows t → row-points-in (encode t) i ≡ getD (t .row-points) i 0
   points-in-encode i l =
-      let (w, lw, low, high) = sheet-of i l in
+      let (w, lw, low, high) = sheet-of t p i l in
       word-behind (encode t) (row-at (encode t) i) 3 (getD (t .row-points) i 0) _ _ (at-row w i lw low high .1) refl
 
   pub length-encode : length (encode t) ≡ 6 + workshops t + 3 * applicants t + length (t .entries) + 5 * rows t

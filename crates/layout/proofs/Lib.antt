@@ -10,3 +10,5 @@ pub mod ReadProper
 pub mod Says
 pub mod Written
 pub mod Encoded
+pub mod Said
+pub mod RoundTrip

@@ -12,7 +12,7 @@ use lib.ListN.{length, getD}
 use Rattle.std.proofs.shelf.Tests.{cases-lt}
 use Rattle.std.proofs.shelf.Ways.{tells}
 use Rattle.layout.specs.Slices.{table}
-use Rattle.layout.specs.Bytes.{byte, workshops-in, places-from, record-at, count-in, entry-in, row-workshop-in, seats-before, start-of, rows-before, entries-below}
+use Rattle.layout.specs.Bytes.{byte, applicants-in, workshops-in, places-from, record-at, count-in, entry-in, rows-in, row-at, row-workshop-in, seats-before, start-of, rows-before, entries-below}
 use Rattle.layout.proofs.Flats.{length-table, length-flat, getD-table, getD-flat}
 
 -- what goes on by steps only grows
@@ -62,6 +62,10 @@ module _ (b : List ℕ) where
 
   pub record-at-mono : (i n : ℕ) → i ≤ n → record-at b i ≤ record-at b n
   record-at-mono i n l = rises (record-at b) n (λ k _. omega (arith, record-at-more k)) i l
+
+  -- all parts of a record are there, where the bytes end behind their rows
+  pub record-there : length b ≡ row-at b (rows-in b) → (a : ℕ) → a < applicants-in b → record-at b a + 3 + count-in b a ≤ length b
+  record-there whole a l = omega (arith, record-at-more a, record-at-mono (a + 1) (applicants-in b) (omega arith))
 
   -- among more rows
   pub rows-before-mono : (w i n : ℕ) → i ≤ n → rows-before b w i ≤ rows-before b w n

@@ -1,12 +1,12 @@
 -- Bytes say tables: each number of the bytes, where it stands, is the table's. It holds of the bytes without a fault and the tables
 -- read from them, and of the bytes that tables are written as.
-use mathlib.Core.Path.{_≡_, refl, sym, ap, _∙_}
+use mathlib.Core.Path.{_≡_, sym}
 use mathlib.Core.List.{List}
-use Prim.Native.Nat.{ℕ, _+_, _-_, _≤_, _<_}
+use Prim.Native.Nat.{ℕ, _+_, _≤_, _<_}
 use native.Mathlib.Omega.{arith}
 use lib.ListN.{length, getD}
 use Rattle.layout.specs.Tables.{Tables, applicants, workshops, rows, places-at, list-length}
-use Rattle.layout.specs.Bytes.{byte, applicants-in, workshops-in, places-from, lot-in, count-in, entry-in, rows-in, row-at, row-workshop-in, row-applicant-in, row-points-in, start-of, rows-before, tables-in}
+use Rattle.layout.specs.Bytes.{byte, applicants-in, workshops-in, places-from, lot-in, count-in, entry-in, rows-in, row-at, row-workshop-in, row-applicant-in, row-points-in, tables-in}
 use Rattle.layout.proofs.Offsets.{rows-before-le}
 use Rattle.layout.proofs.Clean.{Clean}
 use Rattle.layout.proofs.ReadProper.{workshop-of-row}

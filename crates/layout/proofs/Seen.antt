@@ -1,16 +1,14 @@
 -- What the tests for a repeat say: a lot that an earlier applicant has, an entry that stands earlier in its list, a number that a
 -- list has twice.
-use mathlib.Core.Path.{_≡_, refl, ap, _∙_}
-use mathlib.Core.Logic.{⊎-elim}
+use mathlib.Core.Path.{_≡_, refl}
 use mathlib.Core.Bool.{Bool, true, false}
 use mathlib.Core.List.{List, [], _∷_}
-use Prim.Native.Nat.{ℕ, zero, suc, _+_, _<_}
+use Prim.Native.Nat.{ℕ, zero, suc, _<_}
 use native.Mathlib.Omega.{arith}
 use lib.Dec.{eqb}
 use lib.ListN.{length, getD}
 use Rattle.std.specs.Orderings.{Decides}
-use Rattle.std.proofs.shelf.Tests.{cases-bool}
-use Rattle.std.proofs.shelf.Ways.{tells, decides-eqb, decides-below-or, not-from-decides}
+use Rattle.std.proofs.shelf.Ways.{tells, decides-eqb, decides-below-or}
 use Rattle.layout.specs.Tables.{has, no-repeat}
 use Rattle.layout.specs.Bytes.{lot-in, lot-seen, entry-in, entry-seen}
 

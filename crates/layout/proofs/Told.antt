@@ -1,12 +1,11 @@
 -- The tables that bytes say, number by number.
-use mathlib.Core.Path.{_≡_, refl, ap, _∙_}
+use mathlib.Core.Path.{_≡_, ap, _∙_}
 use mathlib.Core.List.{List}
-use Prim.Native.Nat.{ℕ, _+_, _-_, _≤_, _<_}
+use Prim.Native.Nat.{ℕ, _+_, _≤_, _<_}
 use native.Mathlib.Omega.{arith}
-use lib.ListN.{length, getD, take, drop}
+use lib.ListN.{length, getD, drop}
 use Rattle.std.proofs.shelf.Lists.{length-take-le, length-drop, getD-take, getD-drop}
-use Rattle.layout.specs.Slices.{table}
-use Rattle.layout.specs.Tables.{applicants, workshops, rows, places-at, list-length, list-at}
+use Rattle.layout.specs.Tables.{places-at, list-length, list-at}
 use Rattle.layout.specs.Bytes.{byte, applicants-in, workshops-in, places-from, lot-in, count-in, entry-in, rows-in, row-applicant-in, row-points-in, seats-before, start-of, rows-before, tables-in}
 use Rattle.layout.proofs.Flats.{length-table, getD-table}
 use Rattle.layout.proofs.Offsets.{seats-before-more, start-of-more, start-of-mono, length-entries-below, getD-entries-below}
@@ -68,16 +67,32 @@ module _ (b : List ℕ) where
   unfolding tables-in
   row-points-at i l = getD-table (row-points-in b) (rows-in b) i 0 l
 
+  -- a workshop's places, and an applicant's entries, from the sums
+  pub seats-more : (w : ℕ) → w < workshops-in b →
+      getD (tables-in b .seats) (w + 1) 0 ≡ getD (tables-in b .seats) w 0 + byte b (places-from + w)
+  seats-more w l = omega (arith, seats-at w (omega arith), seats-at (w + 1) (omega arith), seats-before-more b w)
+
+  pub starts-more : (a : ℕ) → a < applicants-in b → getD (tables-in b .starts) (a + 1) 0 ≡ getD (tables-in b .starts) a 0 + count-in b a
+  starts-more a l = omega (arith, starts-at a (omega arith), starts-at (a + 1) (omega arith), start-of-more b a)
+
   pub places-told : (w : ℕ) → w < workshops-in b → places-at (tables-in b) w ≡ byte b (places-from + w)
-  places-told w l = omega (arith, seats-at w (omega arith), seats-at (w + 1) (omega arith), seats-before-more b w)
+  places-told w l = omega (arith, seats-more w l)
 
   pub list-length-told : (a : ℕ) → a < applicants-in b → list-length (tables-in b) a ≡ count-in b a
-  list-length-told a l = omega (arith, starts-at a (omega arith), starts-at (a + 1) (omega arith), start-of-more b a)
+  list-length-told a l = omega (arith, starts-more a l)
 
   pub length-list : (a : ℕ) → a < applicants-in b → length (list-at (tables-in b) a) ≡ count-in b a
   length-list a l =
-      length-take-le (list-length (tables-in b) a) (drop (getD (tables-in b .starts) a 0) (tables-in b .entries))
-      (omega (arith, list-length-told a l, length-drop (getD (tables-in b .starts) a 0) (tables-in b .entries), length-entries, starts-at a (omega arith), start-of-more b a, start-of-mono b (a + 1) (applicants-in b) (omega arith)))
+      let from = getD (tables-in b .starts) a 0 in
+      let end = start-of-mono b (a + 1) (applicants-in b) (omega arith) in
+      length-take-le (list-length (tables-in b) a) (drop from (tables-in b .entries))
+      (omega (
+        arith,
+        length-drop from (tables-in b .entries),
+        length-entries,
+        starts-more a l,
+        starts-at (a + 1) (omega arith),
+      ))
       ∙ list-length-told a l
 
   pub list-told : (a j : ℕ) → a < applicants-in b → j < count-in b a → getD (list-at (tables-in b) a) j 0 ≡ entry-in b a j

@@ -1,16 +1,16 @@
 -- Bytes that say proper tables are what the tables are written as.
-use mathlib.Core.Path.{_≡_, refl, sym, ap, ap₂, _∙_}
-use mathlib.Core.List.{List, [], _∷_, _++_}
-use Prim.Native.Nat.{ℕ, _+_, _-_, _*_, _/_, _%_, _≤_, _<_}
+use mathlib.Core.Path.{_≡_, refl, sym, ap, _∙_}
+use mathlib.Core.List.{List, [], _++_}
+use Prim.Native.Nat.{ℕ, _+_, _-_, _/_, _%_, _≤_, _<_}
 use native.Mathlib.Omega.{arith}
-use lib.ListN.{length, getD, take, drop}
+use lib.ListN.{length, getD, drop}
 use Rattle.std.proofs.shelf.Lists.{append-nil, drop-more, drop-all}
 use Rattle.layout.specs.Slices.{table, flat}
-use Rattle.layout.specs.Tables.{Tables, Proper, applicants, workshops, rows, places-at, list-length, list-at}
-use Rattle.layout.specs.Bytes.{byte, word, applicants-in, workshops-in, places-from, record-at, lot-in, count-in, entry-in, rows-from, rows-in, row-at, row-workshop-in, row-applicant-in, row-points-in}
+use Rattle.layout.specs.Tables.{Tables, Proper, applicants, workshops, rows, places-at, list-at}
+use Rattle.layout.specs.Bytes.{word, applicants-in, record-at, count-in, entry-in, rows-from, row-at}
 use Rattle.layout.specs.Encode.{two-bytes, record-bytes, row-bytes, sheet-bytes, encode, Bytes-only}
 use Rattle.layout.proofs.Flats.{is-table, drop-table, drop-is-flat}
-use Rattle.layout.proofs.Offsets.{record-at-none, record-at-more, record-at-mono}
+use Rattle.layout.proofs.Offsets.{record-at-none, record-at-more, record-at-mono, record-there}
 use Rattle.layout.proofs.OfProper.{length-list-at, getD-list-at, row-starts-within}
 use Rattle.layout.proofs.ReadProper.{byte-small}
 use Rattle.layout.proofs.Says.{Says}
@@ -26,10 +26,6 @@ drop-word b small p x l e =
     cc
 
 module _ (b : List ℕ) (t : Tables) (p : Proper t) (s : Says b t) (small : Bytes-only b) where
-  record-there : (a : ℕ) → a < applicants t → record-at b a + 3 + count-in b a ≤ length b
-  record-there a l =
-      omega (arith, record-at-more b a, record-at-mono b (a + 1) (applicants-in b) (omega (arith, s .applicants-is)), s .whole)
-
   list-is : (a : ℕ) → a < applicants t → list-at t a ≡ table (entry-in b a) (count-in b a)
   list-is a l =
       let count = s .count-is a l in
@@ -39,7 +35,7 @@ module _ (b : List ℕ) (t : Tables) (p : Proper t) (s : Says b t) (small : Byte
   drop-record : (a : ℕ) → a < applicants t → drop (record-at b a) b ≡ record-bytes t a ++ drop (record-at b (a + 1)) b
   drop-record a l =
       let at = record-at b a in
-      let there = record-there a l in
+      let there = record-there b (s .whole) a (omega (arith, s .applicants-is)) in
       let lot = drop-word b small at (getD (t .lots) a 0) (omega arith) (s .lot-is a l) in
       let count = drop-more b (at + 2) 0 (omega arith) in
       let count-is = s .count-is a l in

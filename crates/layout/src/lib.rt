@@ -3,6 +3,11 @@
 ghost use mathlib.Core.Path.{_≡_};
 ghost use Rattle.layout.specs.Refusals.{number-of, place-of};
 
+mod laws;
+
+pub use laws::all_as_written;
+pub use laws::reads_back;
+
 // How many points a workshop gives an applicant.
 #[derive(Clone, Copy, PartialEq, Eq, Debug)]
 pub struct Points(pub u16);

@@ -1,8 +1,11 @@
-// A small instance, proved: whom a programme keeps of two, when it has one place.
+// What holds of every round, each theorem on the contract of a function. The definitions and statements stand in specs/: Places and
+// Promise (a round, what is promised), Market and Laws (the theory, for every way of keeping), ByPoints (points and lots as one),
+// Office, Cuts and Rounds (more promises, cuts, the worked rounds).
 ghost use mathlib.Core.Path.{_≡_};
 ghost use Rattle.round.specs.Laws.{Same-end, End-closed, Few-asks, End-stable, End-dearest, Same-numbers, One-more, Not-all-gain, No-gain};
 ghost use Rattle.round.specs.Places.{keep};
 
+// A small instance: whom a workshop keeps of two, when it has one place.
 pub fn keep_of(a: u32, b: u32, pa: u32, pb: u32) -> u32
     ensures { λ r. ⌜ r ≡ keep a b pa pb ⌝ }
 {
