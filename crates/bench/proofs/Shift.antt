@@ -7,7 +7,7 @@ use Prim.Native.Nat.{ℕ, zero, suc, _+_, _-_, _≤_, _<_}
 use native.Mathlib.Omega.{arith}
 use lib.Dec.{ltb, eqb}
 use lib.ListN.{length, getD, set, take, drop}
-use Rattle.std.proofs.shelf.Lists.{getD-default, length-take-le, drop-more, drop-all}
+use Rattle.std.proofs.shelf.Lists.{length-take-le, drop-more, drop-all}
 use Rattle.std.proofs.shelf.Tests.{cond-true, cond-false, and-left, and-right, and-from, eq-eqb, ne-eqb, le-ltb, ltb-true}
 use Rattle.points.specs.Standing.{no-row}
 use Rattle.bench.specs.Row.{leads, taken-in, left-out, last-seat, answer-of}
@@ -49,7 +49,7 @@ set-shifted zero d (y ∷ []) h = refl
 set-shifted zero d (y ∷ (z ∷ zs)) h = refl
 set-shifted (suc i) d (y ∷ ys) h = ap (λ (zs : List ℕ). y ∷ zs) (set-shifted i d ys (omega arith))
 
-cond-same : (b : Bool) (x : ℕ) → cond b x x ≡ x
+pub cond-same : (b : Bool) (x : ℕ) → cond b x x ≡ x
 cond-same true x = refl
 cond-same false x = refl
 
@@ -59,6 +59,16 @@ shifted-more s ys i j e h k =
     let one = set-shifted j 0 ys (omega arith) in
     let same = getD-shifted (suc j) j 0 ys (omega arith) in
     cc
+
+last-seat-at : (x i : ℕ) (ys : List ℕ) → i + 1 ≡ length ys → last-seat x ys ≡ getD ys i 0
+unfolding last-seat
+last-seat-at x i [] e = absurd (omega arith)
+last-seat-at x zero (y ∷ []) e = refl
+last-seat-at x zero (y ∷ (z ∷ zs)) e = absurd (omega arith)
+last-seat-at x (suc i) (y ∷ ys) e = last-seat-at y i ys (omega arith)
+
+pub last-seat-getD : (x : ℕ) (ys : List ℕ) → 0 < length ys → last-seat x ys ≡ getD ys (length ys - 1) 0
+last-seat-getD x ys h = last-seat-at x (length ys - 1) ys (omega arith)
 
 module _ (v : ℕ → ℕ) (x : ℕ) where
   pub leads-last : (ys : List ℕ) → 0 < length ys → ltb (v (getD ys (length ys - 1) 0)) (v x) ≡ true → leads v x (drop (length ys - 1) ys) ≡ true
@@ -132,18 +142,18 @@ module _ (v : ℕ → ℕ) (x : ℕ) where
   answer-none (y ∷ ys) e = absurd (omega arith)
 
   pub answer-stays : (ys : List ℕ) → 0 < length ys → ltb (v (getD ys (length ys - 1) 0)) (v x) ≡ false → TurnedDown ≡ answer-of x (left-out v x ys)
-  unfolding left-out last-seat
+  unfolding left-out
   answer-stays ys h e =
-      let same = getD-default ys (length ys - 1) x 0 (omega arith) in
-      let test : ltb (v (getD ys (length ys - 1) x)) (v x) ≡ false = cc in
+      let same = last-seat-getD x ys h in
+      let test : ltb (v (last-seat x ys)) (v x) ≡ false = cc in
       sym (cond-true _ _ _ (eq-eqb _ x (cond-false _ _ _ test)))
 
   pub answer-seated : (ys : List ℕ) (y : ℕ) → 0 < length ys → y ≡ getD ys (length ys - 1) 0 → ltb (v y) (v x) ≡ true →
       cond (eqb y no-row) Kept (Displaced y) ≡ answer-of x (left-out v x ys)
-  unfolding left-out last-seat
+  unfolding left-out
   answer-seated ys y h k e =
-      let same = getD-default ys (length ys - 1) x 0 (omega arith) in
-      let test : ltb (v (getD ys (length ys - 1) x)) (v x) ≡ true = cc in
+      let same = last-seat-getD x ys h in
+      let test : ltb (v (last-seat x ys)) (v x) ≡ true = cc in
       let last : left-out v x ys ≡ y = cond-true _ _ _ test ∙ same ∙ sym k in
       let told : answer-of x y ≡ cond (eqb y no-row) Kept (Displaced y) = cond-false _ _ _ (ne-eqb y x (behind-other y e)) in
       sym (ap (answer-of x) last ∙ told)

@@ -42,7 +42,8 @@ taken-in v x (y ∷ ys) = cond (leads v x (y ∷ ys)) (x ∷ take (length ys) (y
 
 -- who has the last seat; x where there is no seat
 unfoldable pub last-seat : ℕ → List ℕ → ℕ
-last-seat x bench = getD bench (length bench - 1) x
+last-seat x [] = x
+last-seat x (y ∷ ys) = last-seat y ys
 
 -- who is out then: whoever had the last seat, or else x
 unfoldable pub left-out : (ℕ → ℕ) → ℕ → List ℕ → ℕ

@@ -5,6 +5,7 @@ ghost use lib.Dec.{eqb};
 ghost use Rattle.codec.specs.Rounds.{tables-of};
 ghost use Rattle.points.specs.Standing.{row-worth, no-row};
 ghost use Rattle.bench.specs.Row.{taken-in, left-out, answer-of};
+ghost use Rattle.bench.specs.Best.{Keeps-best};
 ghost use Rattle.bench.specs.declared.Answer.the-variants.{Kept, Displaced};
 use codec::Round;
 
@@ -23,6 +24,7 @@ pub enum Answer {
 pub fn ask(bench: &mut [u32], round: &Round, row: u32) -> Answer
     ensures bench { λ r. ⌜ now (bench .exit) ≡ taken-in (row-worth (tables-of (now (round .entry)))) row (now (bench .entry)) ⌝ }
     ensures answer { λ r. ⌜ r ≡ answer-of row (left-out (row-worth (tables-of (now (round .entry)))) row (now (bench .entry))) ⌝ }
+    ensures best { λ r. ⌜ Keeps-best (row-worth (tables-of (now (round .entry)))) row (now (bench .entry)) (now (bench .exit)) ⌝ }
 {
     if bench.len() == 0 {
         return Answer::TurnedDown;

@@ -1,0 +1,42 @@
+-- What it means that a bench holds the best of those who asked. v is the worth of a row, 0 for no row. Definitions only.
+use mathlib.Core.Path.{_≡_}
+use mathlib.Core.Bool.{Bool, true, cond}
+use mathlib.Core.Logic.{_≢_, _⊎_}
+use mathlib.Core.List.{List, [], _∷_}
+use Prim.Native.Nat.{ℕ, _+_, _<_, _≤_, min}
+use lib.Dec.{ltb, eqb}
+use lib.ListN.{length}
+use Rattle.std.specs.Orderings.{Decides}
+use Rattle.layout.specs.Tables.{has}
+use Rattle.points.specs.Standing.{no-row}
+
+-- how many of xs pass the test; how many of xs are worth more than u
+unfoldable pub number : (ℕ → Bool) → List ℕ → ℕ
+number p [] = 0
+number p (x ∷ xs) = cond (p x) 1 0 + number p xs
+
+abbrev pub above : (ℕ → ℕ) → ℕ → List ℕ → ℕ
+above v u xs = number (λ x. ltb u (v x)) xs
+
+-- whoever sits further down is worth less; only an empty seat, which is worth 0, may stand there again
+unfoldable pub Best-first : (ℕ → ℕ) → List ℕ → Type 0
+Best-first v [] = Unit {0}
+Best-first v (y ∷ ys) = ((z : ℕ) → has z ys ≡ true → (v z < v y) ⊎ (z ≡ y)) × Best-first v ys
+
+-- those of xs that are worth something are all worth different numbers
+abbrev pub Told-apart : (ℕ → ℕ) → List ℕ → Type 0
+Told-apart v xs = (x y : ℕ) → has x xs ≡ true → has y xs ≡ true → 0 < v x → v x ≡ v y → x ≡ y
+
+-- The bench holds the best of xs, as many as there are seats. sorted: the best first, the empty seats last; once: nobody has more
+-- seats than it has asked for; kept: on the bench are those of xs with points of whom fewer than there are seats are worth more;
+-- many: as many seats are worth more than u as rows of xs are, up to the number of seats. So with u = 0 no seat is empty but for
+-- want of askers
+pub record Best-of (v : ℕ → ℕ) (xs bench : List ℕ) : Type 0 where
+  pub sorted : Best-first v bench
+  pub once : (x : ℕ) → x ≢ no-row → number (eqb x) bench ≤ number (eqb x) xs
+  pub kept : (x : ℕ) → x ≢ no-row → Decides (has x bench) ((has x xs ≡ true) × (0 < v x) × (above v (v x) xs < length bench))
+  pub many : (u : ℕ) → above v u bench ≡ min (length bench) (above v u xs)
+
+-- an ask of x keeps it so: the bench held the best of all who asked before, and now holds the best of them and x
+abbrev pub Keeps-best : (ℕ → ℕ) → ℕ → List ℕ → List ℕ → Type 0
+Keeps-best v x before behind = (xs : List ℕ) → Told-apart v (x ∷ xs) → Best-of v xs before → Best-of v (x ∷ xs) behind
