@@ -1,2 +1,3 @@
 -- Lemmas over the definitions of specs/.
 pub mod Reading
+pub mod Writing

@@ -72,21 +72,6 @@ module _ (b : List ℕ) (at : ℕ) where
   pub fault-from-err : (k : ℕ) → Err k ≡ outcome (entry-fault rest) (entry-in rest) → entry-fault (drop at b) ≡ Some k
   fault-from-err k h = some-from-err (entry-fault (drop at b)) (entry-in (drop at b)) k (rw take-rest at h)
 
--- the first fault is the one behind no fault
-pub first-of-here : (f : ℕ → Option Refusal) (j n : ℕ) (e : Refusal) → j < n → first-of f j ≡ None → f j ≡ Some e → first-of f n ≡ Some e
-unfolding first-of
-first-of-here f j zero e h none here = absurd (omega arith)
-first-of-here f j (suc n) e h none here =
-    elim (cases-eq j n) [
-      | inl q ↦ let k : f n ≡ Some e = cc in let l : first-of f n ≡ None = cc in simp (k, l)
-      | inr q ↦ simp (first-of-here f j n e (omega arith) none here)
-    ]
-
--- no fault so far, and none here
-pub first-of-more : (f : ℕ → Option Refusal) (j : ℕ) → first-of f j ≡ None → f j ≡ None → first-of f (j + 1) ≡ None
-unfolding first-of
-first-of-more f j none here = rw (add-one j) (simp (none, here))
-
 -- the first found lies below n
 pub first-that-below : (f : ℕ → Bool) (n i : ℕ) → first-that f n ≡ Some i → i < n
 unfolding first-that

@@ -47,12 +47,12 @@ entry-bytes e =
     e .workshop
     ∷ (two-bytes (e .points .0) ++ (kind-of (e .cut) ∷ (two-bytes (cut-points (e .cut)) ++ two-bytes (cut-lot (e .cut)))))
 
--- what stands before the entries
-abbrev pub head-bytes : Letter → List ℕ
-head-bytes l = two-bytes (l .applicant) ++ (two-bytes (l .lot) ++ (length (l .entries) ∷ []))
+-- what stands before the entries: applicant, lot, count
+abbrev pub head-bytes : ℕ → ℕ → ℕ → List ℕ
+head-bytes applicant lot count = two-bytes applicant ++ (two-bytes lot ++ (count ∷ []))
 
 unfoldable pub encode-letter : Letter → List ℕ
-encode-letter l = head-bytes l ++ (joined entry-bytes (l .entries) ++ (l .place ∷ []))
+encode-letter l = head-bytes (l .applicant) (l .lot) (length (l .entries)) ++ (joined entry-bytes (l .entries) ++ (l .place ∷ []))
 
 -- WHAT THE BYTES SAY. The applicant at 0, the lot at 2, the count at 4, the entries from 5 on, the place behind them
 abbrev pub count-in : List ℕ → ℕ

@@ -1,2 +1,3 @@
 pub mod Letter
 pub mod Faults
+pub mod Written

@@ -9,10 +9,11 @@ use lib.ListN.{getD}
 use Rattle.std.specs.declared.option.Option.the-variants.{Some, None}
 use Rattle.std.proofs.shelf.Lists.{length-set, getD-replicate, getD-drop}
 use Rattle.layout.specs.Bytes.{byte, first-of}
+use Rattle.layout.proofs.Firsts.{first-of-at, first-of-more}
 use Rattle.cuts.specs.Cuts.{reached, first-that, first-reached}
 use Rattle.letters.specs.Letter.{count-in, entry-at, part-at, entry-in}
 use Rattle.letters.specs.Faults.{judged, listed-fault, workshop-seen, reached-in, first-in}
-use Rattle.letters.proofs.Reading.{ok-from-none, err-from-some, none-from-ok, some-from-err, first-of-here, first-of-more, first-reached-more, seen-more}
+use Rattle.letters.proofs.Reading.{ok-from-none, err-from-some, none-from-ok, some-from-err, first-reached-more, seen-more}
 use Rattle.letters.specs.declared.entry.Entry.{Entry}
 use Rattle.letters.proofs.check.read_entries.Needs as need
 
@@ -27,7 +28,7 @@ returns-in-Err c =
     let w = byte b (entry-at j) in
     let e = some-from-err (judged (getD (c .loop-j .seen) w false) b j) (entry-in (part-at b j)) _ (c .in-Err .ensures tt) in
     let s = c .loop-j .inv .2 w (omega (arith, c .typed .bytes (entry-at j))) in
-    let here = first-of-here (listed-fault b) j (c .args .count) _ (omega arith) (c .loop-j .inv .0) (ap (λ (z : Bool). judged z b j) (sym s) ∙ e) in
+    let here = first-of-at (listed-fault b) (c .args .count) j _ (c .loop-j .inv .0) (ap (λ (z : Bool). judged z b j) (sym s) ∙ e) (omega arith) in
     err-from-some (first-of (listed-fault b) (count-in b)) _ _ (ap (first-of (listed-fault b)) (sym (c .pre .0)) ∙ here)
 
 pub loop-j-again : need.loop-j-again
