@@ -16,7 +16,8 @@ use Rattle.layout.specs.Bytes.{byte, word, first-of, record-at, workshops-in, m
 use Rattle.layout.specs.declared.Refusal.{Refusal}
 use Rattle.layout.specs.declared.Refusal.the-variants.{Short, LotTaken}
 use Rattle.codec.specs.Readers.{stands-in, entry-fault-at, list-fault-at}
-use Rattle.codec.proofs.Firsts.{first-of-stop}
+use Rattle.layout.proofs.Firsts.{first-of-at}
+use Rattle.layout.proofs.Offsets.{record-at-more}
 
 pub stands-in-more : (b : List ℕ) («from» w j : ℕ) → stands-in b «from» w (j + 1) ≡ (eqb (byte b («from» + j)) w || stands-in b «from» w j)
 unfolding stands-in
@@ -25,7 +26,7 @@ stands-in-more b «from» w j = rw add-one
 -- the count is there and no more than the most, so the first entry at fault is the list's fault
 pub list-refused : (b : List ℕ) (m at j : ℕ) (e : Refusal) → at + 3 ≤ length b → byte b (at + 2) ≤ 20 → j < byte b (at + 2) →
     first-of (entry-fault-at b m at) j ≡ None → entry-fault-at b m at j ≡ Some e → list-fault-at b m at ≡ Some e
-list-refused b m at j e l k i h g = let s = first-of-stop (entry-fault-at b m at) e j (byte b (at + 2)) h g i in grind (arith, tells)
+list-refused b m at j e l k i h g = let s = first-of-at (entry-fault-at b m at) (byte b (at + 2)) j e h g i in grind (arith, tells)
 
 module _ (b : List ℕ) (a : ℕ) where
   entry-seen-is : (w j : ℕ) → entry-seen b a w j ≡ stands-in b (record-at b a + 3) w j
@@ -54,9 +55,8 @@ module _ (b : List ℕ) (a : ℕ) where
     pub record-by-list : (m : ℕ) → m ≡ workshops-in b → at + 2 ≤ length b → lot-seen b (word b at) a ≡ false → record-fault b a ≡ list-fault-at b m at
     record-by-list m e l t = rw (record-fault-is, ← place, e) grind (arith, tells)
 
-    pub record-at-more : record-at b (a + 1) ≡ at + 3 + byte b (at + 2)
-    unfolding record-at
-    record-at-more = rw (add-one, place)
+    pub record-after : record-at b (a + 1) ≡ at + 3 + byte b (at + 2)
+    record-after = rw place (record-at-more b a)
 
 -- the array of the lots seen: what it says of the lot at a place, before any applicant, and after one more
 pub lot-seen-is : (b : List ℕ) (a at lot : ℕ) (seen : List Bool) → lot ≡ word b at → lot < 65536 →

@@ -7,10 +7,10 @@ use lib.ListN.{length}
 use Rattle.std.specs.declared.option.Option.{Option}
 use Rattle.std.specs.declared.option.Option.the-variants.{Some, None}
 use Rattle.layout.specs.Slices.{or-else}
-use Rattle.layout.specs.Tables.{most-entries}
+use Rattle.layout.specs.Tables.{most-entries, most-rows}
 use Rattle.layout.specs.Bytes.{byte, word, missing, refuse, first-of, row-workshop-in, row-applicant-in}
 use Rattle.layout.specs.declared.Refusal.{Refusal}
-use Rattle.layout.specs.declared.Refusal.the-variants.{LongList, BadEntry, BadRow, RowOrder}
+use Rattle.layout.specs.declared.Refusal.the-variants.{LongList, BadEntry, ManyRows, BadRow, RowOrder}
 
 -- v, where the k bytes at `at` are all there
 abbrev pub there : List ℕ → ℕ → ℕ → ℕ → Option ℕ
@@ -33,6 +33,10 @@ list-fault-at b m at =
     or-else (missing b (at + 2) 1)
     (or-else (refuse (ltb most-entries (byte b (at + 2))) (LongList (at + 2)))
     (first-of (entry-fault-at b m at) (byte b (at + 2))))
+
+-- the number of rows, at `at`
+abbrev pub count-fault-at : List ℕ → ℕ → Option Refusal
+count-fault-at b at = or-else (missing b at 2) (refuse (ltb most-rows (word b at)) (ManyRows at))
 
 -- the row at `at`, of a round of n applicants and m workshops, where no row may come before applicant a of workshop w
 abbrev pub row-fault-at : List ℕ → ℕ → ℕ → ℕ → ℕ → ℕ → Option Refusal

@@ -5,11 +5,12 @@ ghost use Prim.Native.Nat.{_+_, _≤_};
 ghost use lib.ListN.{length};
 ghost use Rattle.std.specs.Vec.{made};
 ghost use Rattle.layout.specs.Slices.{outcome};
-ghost use Rattle.layout.specs.Bytes.{byte, word, first-of, places-from, places-fault, applicants-in, workshops-in, record-at, record-fault, row-at, row-fault};
-ghost use Rattle.codec.specs.Readers.{stands-in, list-fault-at, row-fault-at};
+ghost use Rattle.layout.specs.Bytes.{byte, word, first-of, head-fault, places-from, places-fault, applicants-in, workshops-in, record-at, record-fault, row-at, row-fault, fault, sizes-in};
+ghost use Rattle.codec.specs.Readers.{stands-in, list-fault-at, count-fault-at, row-fault-at};
 use crate::bytes::byte_at;
 use crate::bytes::word_at;
 use layout::Refusal;
+use layout::Sizes;
 
 // The most applicants of a round.
 pub const MOST_APPLICANTS: usize = 4000;
@@ -29,11 +30,43 @@ pub const MOST_ROWS: usize = 60000;
 // Where the places of the workshops begin.
 pub const PLACES_FROM: usize = 4;
 
+// How many applicants and workshops a round has.
+#[derive(Clone, Copy)]
+struct Head {
+    applicants: usize,
+    workshops: usize,
+}
+
 // A workshop and an applicant: where a row may stand at the earliest.
 #[derive(Clone, Copy)]
 struct Mark {
     workshop: usize,
     applicant: usize,
+}
+
+// The numbers of applicants and of workshops.
+fn judge_head(bytes: &[u8]) -> Result<Head, Refusal>
+    ensures answer { λ r. ⌜ r ≡ outcome (head-fault (now (bytes .entry))) (record { applicants = applicants-in (now (bytes .entry)); workshops = workshops-in (now (bytes .entry)) }) ⌝ }
+    ensures within { λ r. ⌜ made r (λ _. places-from ≤ length (now (bytes .entry))) ⌝ }
+{
+    let Some(applicants) = word_at(bytes, 0) else {
+        return Err(Refusal::Short(bytes.len()));
+    };
+    let applicants = applicants as usize;
+    if applicants > MOST_APPLICANTS {
+        return Err(Refusal::BadSize(0));
+    }
+    let Some(workshops) = word_at(bytes, 2) else {
+        return Err(Refusal::Short(bytes.len()));
+    };
+    let workshops = workshops as usize;
+    if workshops == 0 || workshops > MOST_WORKSHOPS {
+        return Err(Refusal::BadSize(2));
+    }
+    Ok(Head {
+        applicants,
+        workshops,
+    })
 }
 
 // The places of the workshops, a byte each. What stands behind them begins at the answer.
@@ -121,6 +154,21 @@ fn judge_records(
     Ok(at)
 }
 
+// The number of rows, at `at`.
+fn judge_row_count(bytes: &[u8], at: usize) -> Result<usize, Refusal>
+    ensures answer { λ r. ⌜ r ≡ outcome (count-fault-at (now (bytes .entry)) at) (word (now (bytes .entry)) at) ⌝ }
+    ensures within { λ r. ⌜ made r (λ _. at + 2 ≤ length (now (bytes .entry))) ⌝ }
+{
+    let Some(rows) = word_at(bytes, at) else {
+        return Err(Refusal::Short(bytes.len()));
+    };
+    let rows = rows as usize;
+    if rows > MOST_ROWS {
+        return Err(Refusal::ManyRows(at));
+    }
+    Ok(rows)
+}
+
 // The row at `at`, which may not come before `least`. The next row may not come before the answer.
 fn judge_row(
     bytes: &[u8],
@@ -189,4 +237,28 @@ fn judge_rows(
         at += 5;
     }
     Ok(at)
+}
+
+// The sizes of the round that the bytes are, or the first fault. Nothing is written.
+pub fn check(bytes: &[u8]) -> Result<Sizes, Refusal>
+    ensures { λ r. ⌜ r ≡ outcome (fault (now (bytes .entry))) (sizes-in (now (bytes .entry))) ⌝ }
+{
+    let Head {
+        applicants,
+        workshops,
+    } = judge_head(bytes)?;
+    let records_from = judge_places(bytes, workshops)?;
+    let rows_from = judge_records(bytes, records_from, applicants, workshops)?;
+    let rows = judge_row_count(bytes, rows_from)?;
+    let end = judge_rows(bytes, rows_from + 2, rows, applicants, workshops)?;
+    if end < bytes.len() {
+        return Err(Refusal::Trailing(end));
+    }
+    let entries = rows_from - records_from - 3 * applicants;
+    Ok(Sizes {
+        applicants,
+        workshops,
+        entries,
+        rows,
+    })
 }

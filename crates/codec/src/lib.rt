@@ -1,5 +1,6 @@
 // Reading and writing the bytes of a round.
 mod bytes;
+mod fill;
 mod judge;
 mod tables;
 mod view;
@@ -9,4 +10,5 @@ pub use judge::MOST_ENTRIES;
 pub use judge::MOST_PLACES;
 pub use judge::MOST_ROWS;
 pub use judge::MOST_WORKSHOPS;
+pub use judge::check;
 pub use tables::Round;

@@ -8,13 +8,14 @@ use Rattle.std.specs.declared.option.Option.the-variants.{Some, None}
 use Rattle.layout.specs.Bytes.{byte}
 use Rattle.layout.specs.declared.Refusal.the-variants.{Short, BadEntry}
 use Rattle.codec.specs.Readers.{entry-fault-at}
-use Rattle.codec.proofs.Firsts.{first-of-none, first-of-more, got-there, not-there}
+use Rattle.layout.proofs.Firsts.{first-of-more}
+use Rattle.codec.proofs.Firsts.{first-of-zero, got-there, not-there}
 use Rattle.codec.proofs.Lists.{list-refused}
 use Rattle.codec.proofs.judge.judge_list.Needs as need
 use Rattle.codec.proofs.judge.judge_list.Needs.{then-entry-workshops·by·then-entry-workshops, then-entry-workshops·by·else-entry-workshops·then-stands-in}
 
 pub loop-j-holds : need.loop-j-holds
-loop-j-holds c = let g = got-there _ _ _ _ _ (c .in-Some .ensures tt) in (omega arith, first-of-none _)
+loop-j-holds c = let g = got-there _ _ _ _ _ (c .in-Some .ensures tt) in (omega arith, first-of-zero _)
 
 pub returns-in-rest-byte-at : need.returns-in-rest-byte-at
 returns-in-rest-byte-at c =

@@ -7,11 +7,12 @@ use Rattle.layout.specs.Bytes.{places-fault}
 use Rattle.layout.specs.declared.Refusal.the-variants.{Short, BadSize}
 use Prim.Native.Nat.{_+_}
 use lib.ListN.{length}
-use Rattle.codec.proofs.Firsts.{first-of-none, first-of-more, refused-at}
+use Rattle.layout.proofs.Firsts.{first-of-more}
+use Rattle.codec.proofs.Firsts.{first-of-zero, refused-at}
 use Rattle.codec.proofs.judge.judge_places.Needs as need
 
 pub loop-w-holds : need.loop-w-holds
-loop-w-holds c = (c .pre, first-of-none _)
+loop-w-holds c = (c .pre, first-of-zero _)
 
 pub returns-in-rest : need.returns-in-rest
 returns-in-rest c =

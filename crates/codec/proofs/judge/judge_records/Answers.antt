@@ -5,12 +5,13 @@ use Prim.Native.Nat.{_<_}
 use native.Mathlib.Omega.{arith}
 use Rattle.std.proofs.shelf.Lists.{length-set, length-replicate}
 use Rattle.layout.specs.Bytes.{word, lot-in}
-use Rattle.codec.proofs.Firsts.{first-of-none, first-of-more, refused-at, got-there, not-there, fault-from-err, none-from-ok}
-use Rattle.codec.proofs.Lists.{record-short, record-taken, record-by-list, record-at-more, lot-seen-is, seen-none, seen-more}
+use Rattle.layout.proofs.Firsts.{first-of-more}
+use Rattle.codec.proofs.Firsts.{first-of-zero, refused-at, got-there, not-there, fault-from-err, none-from-ok}
+use Rattle.codec.proofs.Lists.{record-short, record-taken, record-by-list, record-after, lot-seen-is, seen-none, seen-more}
 use Rattle.codec.proofs.judge.judge_records.Needs as need
 
 pub loop-a-holds : need.loop-a-holds
-loop-a-holds c = (c .pre .place, c .pre .within, first-of-none _, length-replicate 65536 false, seen-none _)
+loop-a-holds c = (c .pre .place, c .pre .within, first-of-zero _, length-replicate 65536 false, seen-none _)
 
 pub returns-in-rest : need.returns-in-rest
 returns-in-rest c =
@@ -41,7 +42,7 @@ loop-a-again c =
     let n = none-from-ok _ _ _ (c .in-Ok .ensures tt .answer) in
     let f = record-by-list _ _ _ (c .loop-a .inv .0) _ (c .pre .size) (g .0) t ∙ n .0 in
     let e : c .in-Some .lot ≡ lot-in (c .args .bytes .now) (c .loop-a .a) = g .1 ∙ ap (λ x. word (c .args .bytes .now) x) (c .loop-a .inv .0) in (
-      sym (n .1) ∙ sym (record-at-more _ _ _ (c .loop-a .inv .0)),
+      sym (n .1) ∙ sym (record-after _ _ _ (c .loop-a .inv .0)),
       c .in-Ok .ensures tt .within,
       first-of-more _ _ (c .loop-a .inv .2) f,
       length-set _ _ _ ∙ c .loop-a .inv .3,

@@ -4,12 +4,13 @@ use Prim.Native.Nat.{ℕ, _+_}
 use native.Mathlib.Omega.{arith}
 use Rattle.layout.specs.Bytes.{byte, word}
 use Rattle.codec.specs.declared.judge.Mark.{Mark}
-use Rattle.codec.proofs.Firsts.{first-of-none, first-of-more, refused-at, fault-from-err, none-from-ok}
+use Rattle.layout.proofs.Firsts.{first-of-more}
+use Rattle.codec.proofs.Firsts.{first-of-zero, refused-at, fault-from-err, none-from-ok}
 use Rattle.codec.proofs.Rows.{row-fault-is, least-workshop-none, least-applicant-none, least-workshop-more, least-applicant-more}
 use Rattle.codec.proofs.judge.judge_rows.Needs as need
 
 pub loop-i-holds : need.loop-i-holds
-loop-i-holds c = (c .pre .place, c .pre .within, first-of-none _, sym (least-workshop-none _), sym (least-applicant-none _))
+loop-i-holds c = (c .pre .place, c .pre .within, first-of-zero _, sym (least-workshop-none _), sym (least-applicant-none _))
 
 pub returns-in-Err : need.returns-in-Err
 returns-in-Err c =
