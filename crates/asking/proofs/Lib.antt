@@ -1,0 +1,6 @@
+-- Lemmas for the run of a round: how far asking has come, in any market; what the market of tables is, in words of the tables.
+pub mod Progress
+pub mod Tabled
+pub mod Standings
+pub mod Proper
+pub mod Gathered
