@@ -14,7 +14,11 @@ module _ (f : ℕ → List ℕ) (old : List ℕ) where
   lines-more was now i before after =
       after ∙ ap (λ (x : List ℕ). x ++ f i) before ∙ append-assoc old (flat f i) (f i) ∙ sym (ap (λ (x : List ℕ). old ++ x) (flat-more f i))
 
--- four parts, one behind the other, from an empty text on
+-- three and four parts, one behind the other, from an empty text on
+pub three-parts : (a b c a′ none p q r : List ℕ) → none ≡ [] → a′ ≡ a → p ≡ none ++ a′ → q ≡ p ++ b → r ≡ q ++ c → r ≡ a ++ (b ++ c)
+three-parts a b c a′ none p q r empty same e f g = g ∙ simp (f, e, empty, same, append-assoc)
+
 pub four-parts : (a b c d a′ none p q r s : List ℕ) → none ≡ [] → a′ ≡ a → p ≡ none ++ a′ → q ≡ p ++ b → r ≡ q ++ c → s ≡ r ++ d →
     s ≡ a ++ (b ++ (c ++ d))
-four-parts a b c d a′ none p q r s empty same e f g h = h ∙ simp (g, f, e, empty, same, append-assoc)
+four-parts a b c d a′ none p q r s empty same e f g h =
+    h ∙ ap (λ (x : List ℕ). x ++ d) (three-parts a b c a′ none p q r empty same e f g) ∙ simp append-assoc

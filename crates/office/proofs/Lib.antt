@@ -3,3 +3,4 @@ pub mod Told
 pub mod Holding
 pub mod Appends
 pub mod Entries
+pub mod Laid

@@ -1,3 +1,4 @@
+pub mod Outcome
 pub mod Text
 pub mod Words
 pub mod Faults

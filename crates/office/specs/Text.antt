@@ -12,6 +12,7 @@ use Rattle.round.specs.Market.{Market, final, placed-at, got, asks, placed}
 use Rattle.points.specs.Standing.{market}
 use Rattle.cuts.specs.declared.Cut.{Cut}
 use Rattle.cuts.specs.declared.Cut.the-variants.{Open, Shut, Full}
+use Rattle.office.specs.Outcome.{cut-at}
 
 abbrev pub newline : List ℕ
 newline = 10 ∷ []
@@ -49,3 +50,10 @@ cut-words (Full points lot) = full-words (points .0) (lot .0)
 -- cut 0 30 lot 2
 unfoldable pub cut-line : ℕ → Cut → List ℕ
 cut-line w c = (codes "cut " ++ (decimal w ++ codes " ")) ++ (cut-words c ++ newline)
+
+-- all that is printed of a round: the head, a line for each applicant, a line for each workshop
+unfoldable pub text-of : Tables → List ℕ
+text-of t =
+    head-line (asks (market t)) (placed (market t))
+    ++ (flat (applicant-line (market t)) (applicants t)
+    ++ flat (λ w. cut-line w (cut-at t w)) (workshops t))

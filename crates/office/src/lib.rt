@@ -3,7 +3,7 @@ mod fault;
 mod letter_words;
 mod lines;
 mod owned;
-mod report;
+mod printing;
 mod settled;
 mod shows;
 mod texts;
@@ -11,5 +11,6 @@ mod wishes;
 
 pub use fault::Fault;
 pub use letter_words::explain;
+pub use printing::report;
 pub use settled::Settled;
 pub use texts::refusal_text;

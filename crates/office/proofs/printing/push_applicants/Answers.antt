@@ -1,5 +1,5 @@
 use Rattle.office.proofs.Appends.{lines-none, lines-more}
-use Rattle.office.proofs.report.push_applicants.Needs as need
+use Rattle.office.proofs.printing.push_applicants.Needs as need
 
 pub loop-a-holds : need.loop-a-holds
 loop-a-holds c = lines-none _ _
