@@ -1,3 +1,4 @@
+pub mod Answered
 pub mod Checked
 pub mod Faults
 pub mod Fills
@@ -6,3 +7,4 @@ pub mod Fronts
 pub mod Lists
 pub mod Puts
 pub mod Rows
+pub mod Sheets

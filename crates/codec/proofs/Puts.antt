@@ -30,10 +30,10 @@ put-put at n xs ys old l e =
     let kept = ap (λ (z : List ℕ). take n z) whole ∙ take-at front back n len in
     let more : at + length xs + length ys ≡ at + length (xs ++ ys) = omega (arith, length-append xs ys) in
     let rest : drop (n + length ys) (put at xs old) ≡ drop (at + length (xs ++ ys)) old =
-        sym (drop-drop (length ys) n (put at xs old))
-        ∙ (ap (λ (z : List ℕ). drop (length ys) (drop n z)) whole
-        ∙ (ap (λ (z : List ℕ). drop (length ys) z) (drop-at front back n len)
-        ∙ (drop-drop (length ys) (at + length xs) old ∙ ap (λ (k : ℕ). drop k old) more)))
+    sym (drop-drop (length ys) n (put at xs old))
+    ∙ (ap (λ (z : List ℕ). drop (length ys) (drop n z)) whole
+    ∙ (ap (λ (z : List ℕ). drop (length ys) z) (drop-at front back n len)
+    ∙ (drop-drop (length ys) (at + length xs) old ∙ ap (λ (k : ℕ). drop k old) more)))
     in
     ap₂ (λ (p q : List ℕ). p ++ (ys ++ q)) kept rest ∙ simp append-assoc
 
@@ -71,10 +71,17 @@ pub over-table-end : (f : ℕ → ℕ) (i n y : ℕ) (s old : List ℕ) → i �
     set s n y ≡ over (table f (n + 1)) old
 over-table-end f i n y s old k e v l = over-table-more f n y s old (rw k at e) (rw k at v) l
 
-pub put-table-more : (f : ℕ → ℕ) (at i : ℕ) (s old : List ℕ) → s ≡ put at (table f i) old → at + i < length old →
-    set s (at + i) (f i) ≡ put at (table f (i + 1)) old
-put-table-more f at i s old e l =
+pub put-table-none : (f : ℕ → ℕ) (at k : ℕ) (old : List ℕ) → k ≡ 0 → old ≡ put at (table f k) old
+put-table-none f at k old e = rw e (sym (put-none at old))
+
+pub put-table-end : (f : ℕ → ℕ) (at k n : ℕ) (s old : List ℕ) → k ≡ n → s ≡ put at (table f k) old → s ≡ put at (table f n) old
+put-table-end f at k n s old e h = rw e at h
+
+pub put-table-more : (f : ℕ → ℕ) (at i p y n : ℕ) (s old : List ℕ) → p ≡ at + i → n ≡ i + 1 → y ≡ f i → s ≡ put at (table f i) old → p < length old →
+    set s p y ≡ put at (table f n) old
+put-table-more f at i p y n s old ep en ey e l =
     let len = length-table f i in
-    ap (λ (x : List ℕ). set x (at + i) (f i)) e
-    ∙ (set-is-put (at + i) (f i) (put at (table f i) old) (omega (arith, length-put at (table f i) old (omega arith)))
+    let lt : at + i < length old = omega arith in
+    rw (ep, en, ey, e)
+    (set-is-put (at + i) (f i) (put at (table f i) old) (omega (arith, length-put at (table f i) old (omega arith)))
     ∙ (put-put at (at + i) (table f i) (f i ∷ []) old (omega arith) (omega arith) ∙ ap (λ (z : List ℕ). put at z old) (sym (table-more f i))))

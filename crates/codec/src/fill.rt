@@ -1,18 +1,32 @@
 // Filling lent slices with the tables of a round, from bytes that were judged without a fault.
 ghost use mathlib.Core.Path.{_≡_};
-ghost use Prim.Native.Nat.{_+_, _≤_};
+ghost use Prim.Native.Nat.{_+_, _-_, _≤_};
 ghost use lib.ListN.{length};
 ghost use Rattle.std.specs.declared.option.Option.the-variants.{None};
-ghost use Rattle.layout.specs.Slices.{over, table};
-ghost use Rattle.layout.specs.Bytes.{byte, places-from, seats-before, fault, applicants-in, record-at, lot-in, start-of, entries-below};
-ghost use Rattle.codec.specs.Fronts.{enough};
+ghost use Rattle.layout.specs.Slices.{over, table, laid, outcome, or-else};
+ghost use Rattle.layout.specs.Bytes.{byte, places-from, seats-before, fault, applicants-in, record-at, lot-in, start-of, entries-below, workshops-in, rows-in, row-at, row-applicant-in, row-points-in, rows-before, sizes-in, tables-in};
+ghost use Rattle.layout.specs.Encode.{As-written};
+ghost use Rattle.std.specs.Vec.{made};
+ghost use Rattle.codec.specs.Fronts.{enough, room-fault, fronts, Ready};
 ghost use Rattle.codec.specs.Puts.{put};
 use crate::bytes::word_in;
 use crate::judge::PLACES_FROM;
+use crate::judge::check;
+use layout::Lent;
+use layout::Refusal;
 use layout::Sizes;
 
 // Whether slices of these lengths have room for the tables.
-fn has_room(sizes: Sizes, seats: usize, lots: usize, starts: usize, entries: usize, row_starts: usize, row_applicants: usize, row_points: usize) -> bool
+fn has_room(
+    sizes: Sizes,
+    seats: usize,
+    lots: usize,
+    starts: usize,
+    entries: usize,
+    row_starts: usize,
+    row_applicants: usize,
+    row_points: usize,
+) -> bool
     ensures { λ r. ⌜ r ≡ enough sizes seats lots starts entries «row_starts» «row_applicants» «row_points» ⌝ }
 {
     sizes.workshops < seats
@@ -51,7 +65,14 @@ fn fill_list(bytes: &[u8], from: usize, count: usize, entries: &mut [u16], start
 }
 
 // The lots, the lists and where each list begins. The records begin at `from`.
-fn fill_lists(bytes: &[u8], from: usize, applicants: usize, lots: &mut [u16], starts: &mut [u32], entries: &mut [u16])
+fn fill_lists(
+    bytes: &[u8],
+    from: usize,
+    applicants: usize,
+    lots: &mut [u16],
+    starts: &mut [u32],
+    entries: &mut [u16],
+)
     requires clean { ⌜ fault (now bytes) ≡ None ⌝ }
     requires place { ⌜ from ≡ record-at (now bytes) 0 ⌝ }
     requires many { ⌜ applicants ≡ applicants-in (now bytes) ⌝ }
@@ -73,4 +94,108 @@ fn fill_lists(bytes: &[u8], from: usize, applicants: usize, lots: &mut [u16], st
         at += 3 + count;
     }
     starts[applicants] = start as u32;
+}
+
+// The workshops from `next` up to `until` have their rows from `row` on.
+fn open_sheets(row_starts: &mut [u32], next: usize, until: usize, row: u32)
+    requires order { ⌜ next ≤ until ⌝ }
+    requires room { ⌜ until ≤ length (now «row_starts») ⌝ }
+    ensures { λ _. ⌜ now («row_starts» .exit) ≡ put next (table (λ _. row) (until - next)) (now («row_starts» .entry)) ⌝ }
+{
+    for w in next..until {
+        row_starts[w] = row;
+    }
+}
+
+// The rows, and where those of each workshop begin. The rows stand from `from` on.
+fn fill_rows(
+    bytes: &[u8],
+    from: usize,
+    rows: usize,
+    workshops: usize,
+    row_starts: &mut [u32],
+    row_applicants: &mut [u16],
+    row_points: &mut [u16],
+)
+    requires clean { ⌜ fault (now bytes) ≡ None ⌝ }
+    requires place { ⌜ from ≡ row-at (now bytes) 0 ⌝ }
+    requires many { ⌜ rows ≡ rows-in (now bytes) ⌝ }
+    requires size { ⌜ workshops ≡ workshops-in (now bytes) ⌝ }
+    requires start_room { ⌜ workshops + 1 ≤ length (now «row_starts») ⌝ }
+    requires applicant_room { ⌜ rows ≤ length (now «row_applicants») ⌝ }
+    requires point_room { ⌜ rows ≤ length (now «row_points») ⌝ }
+    ensures sheeted { λ _. ⌜ now («row_starts» .exit) ≡ over (table (λ w. rows-before (now (bytes .entry)) w rows) (workshops + 1)) (now («row_starts» .entry)) ⌝ }
+    ensures rowed { λ _. ⌜ now («row_applicants» .exit) ≡ over (table (row-applicant-in (now (bytes .entry))) rows) (now («row_applicants» .entry)) ⌝ }
+    ensures pointed { λ _. ⌜ now («row_points» .exit) ≡ over (table (row-points-in (now (bytes .entry))) rows) (now («row_points» .entry)) ⌝ }
+{
+    let mut at = from;
+    let mut next: usize = 0;
+    for i in 0..rows {
+        let until = bytes[at] as usize + 1;
+        open_sheets(row_starts, next, until, i as u32);
+        next = until;
+        row_applicants[i] = word_in(bytes, at + 1);
+        row_points[i] = word_in(bytes, at + 3);
+        at += 5;
+    }
+    open_sheets(row_starts, next, workshops + 1, rows as u32);
+}
+
+// The tables of the round that the bytes are, laid over the front of the slices, or the first fault; slices that are too short come
+// after all faults of the bytes. A refusal leaves every slice as it was.
+pub fn read(
+    bytes: &[u8],
+    seats: &mut [u32],
+    lots: &mut [u16],
+    starts: &mut [u32],
+    entries: &mut [u16],
+    row_starts: &mut [u32],
+    row_applicants: &mut [u16],
+    row_points: &mut [u16],
+) -> Result<Sizes, Refusal>
+    ensures answer { λ r. ⌜ r ≡ outcome (or-else (fault (now (bytes .entry))) (room-fault (sizes-in (now (bytes .entry))) (now (seats .entry)) (now (lots .entry)) (now (starts .entry)) (now (entries .entry)) (now («row_starts» .entry)) (now («row_applicants» .entry)) (now («row_points» .entry)))) (sizes-in (now (bytes .entry))) ⌝ }
+    ensures seated { λ r. ⌜ now (seats .exit) ≡ laid r (tables-in (now (bytes .entry)) .seats) (now (seats .entry)) ⌝ }
+    ensures drawn { λ r. ⌜ now (lots .exit) ≡ laid r (tables-in (now (bytes .entry)) .lots) (now (lots .entry)) ⌝ }
+    ensures started { λ r. ⌜ now (starts .exit) ≡ laid r (tables-in (now (bytes .entry)) .starts) (now (starts .entry)) ⌝ }
+    ensures listed { λ r. ⌜ now (entries .exit) ≡ laid r (tables-in (now (bytes .entry)) .entries) (now (entries .entry)) ⌝ }
+    ensures sheeted { λ r. ⌜ now («row_starts» .exit) ≡ laid r (tables-in (now (bytes .entry)) .row-starts) (now («row_starts» .entry)) ⌝ }
+    ensures rowed { λ r. ⌜ now («row_applicants» .exit) ≡ laid r (tables-in (now (bytes .entry)) .row-applicants) (now («row_applicants» .entry)) ⌝ }
+    ensures pointed { λ r. ⌜ now («row_points» .exit) ≡ laid r (tables-in (now (bytes .entry)) .row-points) (now («row_points» .entry)) ⌝ }
+    ensures written { λ _. ⌜ As-written (now (bytes .entry)) ⌝ }
+    ensures ready { λ r. ⌜ made r (λ s. Ready s (now (seats .exit)) (now (lots .exit)) (now (starts .exit)) (now (entries .exit)) (now («row_starts» .exit)) (now («row_applicants» .exit)) (now («row_points» .exit))) ⌝ }
+    ensures whole { λ r. ⌜ made r (λ s. fronts s (now (seats .exit)) (now (lots .exit)) (now (starts .exit)) (now (entries .exit)) (now («row_starts» .exit)) (now («row_applicants» .exit)) (now («row_points» .exit)) ≡ tables-in (now (bytes .entry))) ⌝ }
+{
+    let sizes = check(bytes)?;
+    if !has_room(
+        sizes,
+        seats.len(),
+        lots.len(),
+        starts.len(),
+        entries.len(),
+        row_starts.len(),
+        row_applicants.len(),
+        row_points.len(),
+    ) {
+        return Err(Refusal::NoRoom(Lent::RoundTables));
+    }
+    let Sizes {
+        applicants,
+        workshops,
+        entries: listed,
+        rows,
+    } = sizes;
+    let records_from = PLACES_FROM + workshops;
+    let rows_from = records_from + 3 * applicants + listed;
+    fill_seats(bytes, workshops, seats);
+    fill_lists(bytes, records_from, applicants, lots, starts, entries);
+    fill_rows(
+        bytes,
+        rows_from + 2,
+        rows,
+        workshops,
+        row_starts,
+        row_applicants,
+        row_points,
+    );
+    Ok(sizes)
 }

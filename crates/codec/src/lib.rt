@@ -5,6 +5,7 @@ mod judge;
 mod tables;
 mod view;
 
+pub use fill::read;
 pub use judge::MOST_APPLICANTS;
 pub use judge::MOST_ENTRIES;
 pub use judge::MOST_PLACES;

@@ -1,4 +1,4 @@
-use mathlib.Core.Path.{sym}
+use mathlib.Core.Path.{refl, sym}
 use Prim.Native.Nat.{ℕ, _+_}
 use native.Mathlib.Omega.{arith}
 use Rattle.layout.specs.Bytes.{byte}
@@ -10,4 +10,4 @@ loop-j-holds c = sym (put-none (c .args .start) (c .args .entries .now))
 
 pub loop-j-again : need.loop-j-again
 loop-j-again c =
-    put-table-more (λ (j : ℕ). byte (c .args .bytes .now) (c .args .«from» + j)) (c .args .start) (c .loop-j .j) _ _ (c .loop-j .inv) (omega arith)
+    put-table-more (λ (j : ℕ). byte (c .args .bytes .now) (c .args .«from» + j)) (c .args .start) (c .loop-j .j) _ _ _ _ _ refl refl refl (c .loop-j .inv) (omega arith)

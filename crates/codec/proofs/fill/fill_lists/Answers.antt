@@ -44,13 +44,13 @@ loop-a-again c =
     let v = c .loop-a .inv in
     let after = record-after b a _ (v .0) in
     let few = few-entries b (c .pre .clean) a _ (c .pre .many) (c .loop-a-test .taken) _ (v .0) in
-    let count : byte b (c .loop-a .at + 2) ≡ count-in b a = ap (λ (x : ℕ). byte b (x + 2)) (v .0) in
-    ( omega arith
-    , omega (arith, start-of-more b a)
-    , omega arith
-    , over-table-more (lot-in b) a _ _ _ (v .3) (c .word-in .ensures ∙ ap (λ (x : ℕ). word b x) (v .0)) (omega arith)
-    , over-table-more (start-of b) a _ _ _ (v .4) (v .1) (omega arith)
-    , entries-more b (c .pre .clean) a _ (c .pre .many) (c .loop-a-test .taken) _ (v .0) _ _ _ _ (v .1) (v .5) (c .fill-list .ensures)
+    let count : byte b (c .loop-a .at + 2) ≡ count-in b a = ap (λ (x : ℕ). byte b (x + 2)) (v .0) in (
+      omega arith,
+      omega (arith, start-of-more b a),
+      omega arith,
+      over-table-more (lot-in b) a _ _ _ (v .3) (c .word-in .ensures ∙ ap (λ (x : ℕ). word b x) (v .0)) (omega arith),
+      over-table-more (start-of b) a _ _ _ (v .4) (v .1) (omega arith),
+      entries-more b (c .pre .clean) a _ (c .pre .many) (c .loop-a-test .taken) _ (v .0) _ _ _ _ (v .1) (v .5) (c .fill-list .ensures),
     )
 
 pub returns : need.returns

@@ -12,10 +12,10 @@ loop-w-holds c = (refl, refl, omega arith)
 
 pub loop-w-again : need.loop-w-again
 loop-w-again c =
-    let b = c .args .bytes .now in
-    ( over-table-more (seats-before b) (c .loop-w .w) _ _ _ (c .loop-w .inv .0) (c .loop-w .inv .1) (omega arith)
-    , ap (λ (x : ℕ). x + byte b (places-from + c .loop-w .w)) (c .loop-w .inv .1) ∙ sym (seats-before-more b (c .loop-w .w))
-    , omega arith
+    let b = c .args .bytes .now in (
+      over-table-more (seats-before b) (c .loop-w .w) _ _ _ (c .loop-w .inv .0) (c .loop-w .inv .1) (omega arith),
+      ap (λ (x : ℕ). x + byte b (places-from + c .loop-w .w)) (c .loop-w .inv .1) ∙ sym (seats-before-more b (c .loop-w .w)),
+      omega arith,
     )
 
 pub returns : need.returns
