@@ -4,3 +4,4 @@ pub mod Tabled
 pub mod Standings
 pub mod Proper
 pub mod Gathered
+pub mod Benched

@@ -1,3 +1,4 @@
 pub mod Letter
 pub mod Faults
+pub mod Exact
 pub mod Written

@@ -4,10 +4,11 @@ ghost use mathlib.Core.Bool.{false, cond, _&&_};
 ghost use Prim.Native.Nat.{_≤_, _<_};
 ghost use lib.Dec.{eqb};
 ghost use lib.ListN.{getD};
-ghost use Rattle.layout.specs.Slices.{outcome, or-else};
+ghost use Rattle.layout.specs.Slices.{outcome};
 ghost use Rattle.layout.specs.Bytes.{byte, word, first-of};
 ghost use Rattle.letters.specs.Letter.{count-in, place-at, entry-at, part-at, entry-in};
-ghost use Rattle.letters.specs.Faults.{head-fault, judged, listed-fault, end-fault, letter-fault, place-fault, first-in, verdict-in, entry-told};
+ghost use Rattle.letters.specs.Faults.{head-fault, judged, listed-fault, end-fault, first-in, entry-told};
+ghost use Rattle.letters.specs.Exact.{judged-bytes, Exact};
 use crate::entry::Entry;
 use crate::entry::read_entry;
 use crate::entry::word as number;
@@ -25,9 +26,17 @@ pub struct Verdict {
     pub place: usize,
 }
 
-// Reads a letter, and whether its place is the first of the list whose cut is reached.
+// Reads a letter, and whether its place is the first of the list whose cut is reached. It accepts exactly such letters.
 pub fn check_letter(bytes: &[u8]) -> Result<Verdict, Refusal>
-    ensures { λ r. ⌜ r ≡ outcome (or-else (letter-fault (now (bytes .entry))) (place-fault (now (bytes .entry)))) (verdict-in (now (bytes .entry))) ⌝ }
+    ensures told { λ r. ⌜ r ≡ judged-bytes (now (bytes .entry)) ⌝ }
+    ensures exact { λ r. ⌜ Exact (now (bytes .entry)) r ⌝ }
+{
+    judge(bytes)
+}
+
+// The parts of a letter in turn: the number of entries, the entries, the place.
+fn judge(bytes: &[u8]) -> Result<Verdict, Refusal>
+    ensures { λ r. ⌜ r ≡ judged-bytes (now (bytes .entry)) ⌝ }
 {
     let count = read_head(bytes)?;
     let lot = Lot(number(bytes[2], bytes[3]));
