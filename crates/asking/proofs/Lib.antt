@@ -5,3 +5,4 @@ pub mod Standings
 pub mod Proper
 pub mod Gathered
 pub mod Benched
+pub mod Steps

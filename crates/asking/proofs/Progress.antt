@@ -41,7 +41,7 @@ module _ (k : Market) (law : Lawful k) (d u v : ℕ → ℕ) (going : Going k d 
       elim (cases-eq c b) [ inl i ↦ rw i (omega arith) | inr ne ↦ let e = same c ne in omega arith ]
 
   -- at all other workshops the same have asked
-  gone-elsewhere : (q : ℕ) → (d b < k .wish .len b → q ≢ k .wish .entry b (d b)) → gone (k .wish) v q ≡ gone (k .wish) u q
+  pub gone-elsewhere : (q : ℕ) → (d b < k .wish .len b → q ≢ k .wish .entry b (d b)) → gone (k .wish) v q ≡ gone (k .wish) u q
   unfolding gone
   gone-elsewhere q ne =
       fun-ext (λ c.

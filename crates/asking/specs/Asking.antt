@@ -4,7 +4,7 @@ use mathlib.Core.Bool.{Bool, true, false, cond, _&&_}
 use mathlib.Core.List.{List}
 use Prim.Native.Nat.{ℕ, _+_, _-_, _≤_, _<_, min}
 use lib.Dec.{ltb, eqb}
-use lib.ListN.{length, getD, take}
+use lib.ListN.{length, getD, set, take}
 use Rattle.std.specs.Holes.{between}
 use Rattle.layout.specs.Tables.{Tables, applicants, workshops}
 use Rattle.round.specs.Market.{Wish, Market, Reached, sum}
@@ -36,6 +36,10 @@ at-rest t results c = counts t results c - 1
 
 unfoldable pub but-for : Tables → List ℕ → ℕ → ℕ → ℕ
 but-for t results b c = cond (eqb c b) (counts t results c) (at-rest t results c)
+
+-- b asks once more
+abbrev pub one-more : List ℕ → ℕ → List ℕ
+one-more results b = set results b (getD results b 0 + 1)
 
 -- the number of asks so far
 unfoldable pub asks-so-far : Tables → List ℕ → ℕ
