@@ -4,3 +4,5 @@ pub mod Holding
 pub mod Appends
 pub mod Entries
 pub mod Laid
+pub mod Roomy
+pub mod Refills

@@ -2,5 +2,6 @@ pub mod Outcome
 pub mod Text
 pub mod Words
 pub mod Faults
+pub mod Sheets
 pub mod Owned
 pub mod Settling

@@ -4,6 +4,7 @@ mod letter_words;
 mod lines;
 mod owned;
 mod printing;
+mod reading;
 mod settled;
 mod shows;
 mod texts;
