@@ -2,6 +2,7 @@
 mod bytes;
 mod fill;
 mod judge;
+mod output;
 mod tables;
 mod view;
 
@@ -12,4 +13,5 @@ pub use judge::MOST_PLACES;
 pub use judge::MOST_ROWS;
 pub use judge::MOST_WORKSHOPS;
 pub use judge::check;
+pub use output::write;
 pub use tables::Round;

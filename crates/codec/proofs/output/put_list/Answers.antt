@@ -1,0 +1,14 @@
+use mathlib.Core.Path.{refl, sym, ap, _∙_}
+use mathlib.Core.List.{_∷_, []}
+use Prim.Native.Nat.{_+_, _<_}
+use native.Mathlib.Omega.{arith}
+use lib.ListN.{length, take, drop, getD}
+use Rattle.std.proofs.shelf.Lists.{length-take-le, length-drop}
+use Rattle.codec.proofs.Puts.{put-none, put-taken-more}
+use Rattle.codec.proofs.output.put_list.Needs as need
+
+pub loop-j-holds : need.loop-j-holds
+loop-j-holds c = sym (put-none (c .args .at) (c .args .out .now))
+
+pub loop-j-again : need.loop-j-again
+loop-j-again c = put-taken-more (c .args .entries .now) (c .args .«from») (c .args .at) (c .loop-j .j) _ _ (omega arith) (c .loop-j .inv) (omega arith)
