@@ -61,9 +61,11 @@ module _ (t : Tables) (ok : Proper t) (w : ℕ) (l : w < workshops t) where
       let room = places-of-round t w l in
       let many = ahead-above X c h in
       let row : row-of t w c ≢ no-row = λ e. let z = ap (row-worth t) e ∙ row-worth-none t ok in omega arith in
-      let found = row-found t ok w l c row in
-      (row, best-of-bench X .kept (row-of t w c) row .1
-      (rows-at-has t ok w l X (row-of t w c) (found .0) (rw (found .1) (f .0)), omega arith, let len = length-bench-of X in omega arith))
+      let found = row-found t ok w l c row in (
+        row,
+        best-of-bench X .kept (row-of t w c) row .1
+            (rows-at-has t ok w l X (row-of t w c) (found .0) (rw (found .1) (f .0)), omega arith, let len = length-bench-of X in omega arith),
+      )
 
   -- and nobody else
   pub seated-kept : (X : ℕ → Bool) (r : ℕ) → r ≢ no-row → has r (bench-of t X w) ≡ true → Of t w r × (market t .keeps w X (getD (t .row-applicants) r 0) ≡ true)

@@ -5,4 +5,8 @@ pub mod Standings
 pub mod Proper
 pub mod Gathered
 pub mod Benched
+pub mod Parts
 pub mod Steps
+pub mod Found
+pub mod Sums
+pub mod Loops

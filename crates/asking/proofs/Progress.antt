@@ -105,10 +105,13 @@ module _ (k : Market) (law : Lawful k) (d u v : ℕ → ℕ) (going : Going k d 
           elim (cases-eq c o) [
             | inr ne ↦ inl (stays c ne)
             | inl i ↦
-                inr (rw i (turned-from k d o
-                (let h = gone-parts (k .wish) v p o has-gone in omega arith)
-                (subst (λ (x : ℕ). k .keeps x (asked (k .wish) d x) o ≡ false) (sym entry-o)
-                (refused-stays (law .way) p (gone (k .wish) v p) (asked (k .wish) d p) within-asked o has-gone out))), rw i on)
+                inr (
+                  rw i (turned-from k d o
+                      (let h = gone-parts (k .wish) v p o has-gone in omega arith)
+                      (subst (λ (x : ℕ). k .keeps x (asked (k .wish) d x) o ≡ false) (sym entry-o)
+                      (refused-stays (law .way) p (gone (k .wish) v p) (asked (k .wish) d p) within-asked o has-gone out))),
+                  rw i on,
+                )
           ])
 
       near-on : (c : ℕ) → (e c ≤ v c) × (v c ≤ e c + 1)

@@ -41,17 +41,18 @@ module _ (t : Tables) (ok : Proper t) where
   unfolding Distinct
   list-distinct a l =
       let len = length-list t ok a l in
-      let apart = no-repeat-apart (list-at t a) (ok .distinct a l) in
-      ( λ j k hj hk e.
+      let apart = no-repeat-apart (list-at t a) (ok .distinct a l) in (
+        λ j k hj hk e.
             elim (cases-eq j k) [
               | inl i ↦ i
               | inr ne ↦ elim (cases-lt j k) [ inl lt ↦ absurd (apart j k lt hk e) | inr le ↦ absurd (apart k j (omega arith) hj (sym e)) ]
-            ]
-      , λ j h.
+            ],
+        λ j h.
             let w = starts-within t ok a l in
             let e = getD-list t ok a l j (workshops t) (omega arith) in
             let small = ok .named (getD (t .starts) a 0 + j) (omega arith) in
-            omega arith )
+            omega arith,
+      )
 
   pub point-one : (p a b : ℕ) → a < applicants t → b < applicants t → 0 < point (round-of t) p a → point (round-of t) p a ≡ point (round-of t) p b → a ≡ b
   point-one p a b ha hb pos e =

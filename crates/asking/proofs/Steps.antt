@@ -1,95 +1,47 @@
 -- One ask in the slices of a run: what they hold stays how far asking has come, whatever the workshop answers.
 use mathlib.Core.Path.{_≡_, refl, sym, ap, subst, fun-ext, _∙_}
-use mathlib.Core.Bool.{Bool, true, false, cond, _&&_}
+use mathlib.Core.Bool.{Bool, true, false}
 use mathlib.Core.Logic.{_⊎_, inl, inr, _≢_}
 use mathlib.Core.List.{List}
 use Prim.Native.Nat.{ℕ, _+_, _-_, _≤_, _<_}
 use native.Mathlib.Omega.{arith}
-use lib.Dec.{eqb, ltb}
-use lib.ListN.{length, getD, set, take, drop}
-use borrow.Rule.Slice.PartMut.{putMid, same-len-mid}
+use lib.Dec.{eqb}
+use lib.ListN.{length, getD, drop}
+use borrow.Rule.Slice.PartMut.{putMid}
 use Rattle.std.specs.Holes.{between}
 use Rattle.std.proofs.shelf.Ways.{tells}
-use Rattle.std.proofs.shelf.Tests.{cases-lt, cases-eq, cases-bool, false≢true, eq-eqb, ne-eqb, cond-false, le-ltb}
-use Rattle.std.proofs.shelf.Lists.{getD-take, getD-past, getD-set-same, getD-set-other, length-set, length-take, length-take-le, length-drop}
-use Rattle.std.proofs.shelf.Parts.{between-is, take-putMid-below, drop-putMid, between-putMid}
-use Rattle.layout.specs.Tables.{Tables, Proper, applicants, workshops, places-at, list-length}
-use Rattle.layout.proofs.Offsets.{rises}
+use Rattle.std.proofs.shelf.Tests.{cases-lt, cases-eq, false≢true, cond-false, le-ltb}
+use Rattle.std.proofs.shelf.Lists.{length-set}
+use Rattle.layout.specs.Tables.{Tables, Proper, applicants, workshops, rows, places-at, list-length}
 use Rattle.round.specs.Market.{Market, Lawful}
 use Rattle.round.proofs.Ends.{listed-below}
 use Rattle.points.specs.Standing.{no-row, row-of, row-worth, market}
-use Rattle.bench.specs.Row.{taken-in, left-out, last-seat}
+use Rattle.bench.specs.Row.{taken-in, left-out, last-seat, answer-of}
+use Rattle.bench.specs.declared.Answer.{Answer}
+use Rattle.bench.specs.declared.Answer.the-variants.{Kept, Displaced, TurnedDown}
 use Rattle.asking.specs.Ended.{bench-of}
-use Rattle.asking.specs.Asking.{gone, Going, counts, at-rest, but-for, one-more, Asking, After}
+use Rattle.asking.specs.Asking.{gone, Going, counts, at-rest, but-for, one-more, Asking, After, turn-of}
 use Rattle.asking.specs.declared.Turn.the-variants.{Settled, Asks}
+use Rattle.asking.proofs.Parts.{counts-at, counts-set-other, counts-one-more, rest-one-more, but-for-same, but-for-other, between-same, between-other, length-parts, drop-behind}
 use Rattle.asking.proofs.Progress.{gone-from, gone-parts, not-gone, gone-elsewhere, going-kept, going-out}
 use Rattle.asking.proofs.Tabled.{market-n, market-m, market-len, market-entry}
-use Rattle.asking.proofs.Standings.{row-found, row-worth-none}
+use Rattle.asking.proofs.Standings.{row-found, row-small, row-worth-none}
 use Rattle.asking.proofs.Proper.{lawful}
 use Rattle.asking.proofs.Benched.{length-bench-of, kept-seated, bench-taken-in, rowless-not-kept, others-kept, out-not-kept}
 
-module _ (t : Tables) (results : List ℕ) where
-  pub counts-at : (c : ℕ) → c < applicants t → counts t results c ≡ getD results c 0
-  unfolding counts
-  counts-at c l = getD-take (applicants t) results c 0 l
+-- what an answer says of who is out
+kept-told : (x y : ℕ) → Kept ≡ answer-of x y → (y ≢ x) × (y ≡ no-row)
+kept-told x y e = (λ i. grind (arith, tells), grind (arith, tells))
 
-  pub counts-set-same : (b x : ℕ) → b < applicants t → applicants t ≤ length results → counts t (set results b x) b ≡ x
-  unfolding counts
-  counts-set-same b x l room = getD-take (applicants t) (set results b x) b 0 l ∙ getD-set-same results b x 0 (omega arith)
+displaced-told : (x y z : ℕ) → Displaced z ≡ answer-of x y → (y ≢ x) × (y ≢ no-row) × (z ≡ y)
+displaced-told x y z e = (λ i. grind (arith, tells), λ i. grind (arith, tells), grind (arith, tells))
 
-  pub counts-set-other : (b x c : ℕ) → c ≢ b → counts t (set results b x) c ≡ counts t results c
-  unfolding counts
-  counts-set-other b x c ne =
-      elim (cases-lt c (applicants t)) [
-        | inl l ↦ getD-take (applicants t) (set results b x) c 0 l ∙ getD-set-other results b c x 0 ne ∙ sym (getD-take (applicants t) results c 0 l)
-        | inr l ↦ past (set results b x) c l ∙ sym (past results c l)
-      ]
-    where
-      past : (xs : List ℕ) (i : ℕ) → applicants t ≤ i → getD (take (applicants t) xs) i 0 ≡ 0
-      past xs i h = getD-past (take (applicants t) xs) i 0 (omega (arith, length-take (applicants t) xs))
-
-  pub but-for-same : (b : ℕ) → but-for t results b b ≡ counts t results b
-  unfolding but-for
-  but-for-same b = rw (eq-eqb b b refl)
-
-  pub but-for-other : (b c : ℕ) → c ≢ b → but-for t results b c ≡ counts t results c - 1
-  unfolding but-for at-rest
-  but-for-other b c ne = rw (ne-eqb c b ne)
+turned-down-told : (x y : ℕ) → TurnedDown ≡ answer-of x y → y ≡ x
+turned-down-told x y e = grind (arith, tells)
 
 left-out-worthless : (v : ℕ → ℕ) (x : ℕ) (bench : List ℕ) → v x ≡ 0 → left-out v x bench ≡ x
 unfolding left-out
 left-out-worthless v x bench z = cond-false _ _ _ (le-ltb (v (last-seat x bench)) (v x) (omega arith))
-
--- the parts of the workshops lie one after the other
-module _ (t : Tables) (ok : Proper t) (benches part : List ℕ) (w : ℕ) (lw : w < workshops t) (long : length part ≡ places-at t w) (room : getD (t .seats) (workshops t) 0 ≤ length benches) where
-  pub seats-within : getD (t .seats) (w + 1) 0 ≤ getD (t .seats) (workshops t) 0
-  seats-within = rises (λ k. getD (t .seats) k 0) (workshops t) (ok .seated .1) (w + 1) (omega arith)
-
-  pub between-same : between (getD (t .seats) w 0) (getD (t .seats) (w + 1) 0) (putMid (getD (t .seats) w 0) (places-at t w) benches part) ≡ part
-  between-same = let up = ok .seated .1 w lw in let in-all = seats-within in between-putMid _ _ benches part _ (omega arith) long
-
-  pub between-other : (q : ℕ) → q < workshops t → q ≢ w → between (getD (t .seats) q 0) (getD (t .seats) (q + 1) 0) (putMid (getD (t .seats) w 0) (places-at t w) benches part) ≡ between (getD (t .seats) q 0) (getD (t .seats) (q + 1) 0) benches
-  between-other q lq ne =
-      let up = ok .seated .1 w lw in
-      let in-all = seats-within in
-      elim (cases-lt q w) [
-        | inl before ↦
-            let apart = rises (λ k. getD (t .seats) k 0) w (λ k l. ok .seated .1 k (omega arith)) (q + 1) (omega arith) in
-            between-is (putMid (getD (t .seats) w 0) (places-at t w) benches part) (getD (t .seats) q 0) (getD (t .seats) (q + 1) 0)
-            ∙ ap (drop (getD (t .seats) q 0)) (take-putMid-below _ (places-at t w) benches part _ apart (omega arith)) ∙ sym (between-is benches (getD (t .seats) q 0) (getD (t .seats) (q + 1) 0))
-        | inr behind ↦
-            let apart = rises (λ k. getD (t .seats) k 0) q (λ k l. ok .seated .1 k (omega arith)) (w + 1) (omega arith) in
-            ap (take (getD (t .seats) (q + 1) 0 - getD (t .seats) q 0)) (drop-putMid _ _ benches part _ (omega arith) (omega arith) long)
-      ]
-
-  pub length-parts : length (putMid (getD (t .seats) w 0) (places-at t w) benches part) ≡ length benches
-  length-parts =
-      let up = ok .seated .1 w lw in
-      let in-all = seats-within in
-      same-len-mid _ _ benches part (long ∙ sym (length-take-le (places-at t w) (drop (getD (t .seats) w 0) benches) (omega (arith, length-drop (getD (t .seats) w 0) benches))))
-
-  pub drop-behind : drop (getD (t .seats) (workshops t) 0) (putMid (getD (t .seats) w 0) (places-at t w) benches part) ≡ drop (getD (t .seats) (workshops t) 0) benches
-  drop-behind = let up = ok .seated .1 w lw in let in-all = seats-within in drop-putMid _ _ benches part _ (omega arith) (omega arith) long
 
 -- b, who has come so far, asks w with its row x; part is what the bench of w holds then, and y is out
 module _ (t : Tables) (ok : Proper t) (results benches part : List ℕ) (b w x y : ℕ) (small : b < applicants t) (lt : getD results b 0 < list-length t b)
@@ -113,7 +65,7 @@ module _ (t : Tables) (ok : Proper t) (results benches part : List ℕ) (b w x y
   asker = sym (but-for-same t results b)
 
   more : counts t (one-more results b) b ≡ but-for t results b b + 1
-  more = let e = come-to in let f = counts-set-same t results b (getD results b 0 + 1) small (asking .room .0) in omega arith
+  more = counts-one-more t results b small (asking .room .0)
 
   same : (c : ℕ) → c ≢ b → counts t (one-more results b) c ≡ counts t results c
   same = counts-set-other t results b (getD results b 0 + 1)
@@ -194,11 +146,7 @@ module _ (t : Tables) (ok : Proper t) (results benches part : List ℕ) (b w x y
       (elim (cases-eq c b) [ inl e ↦ inr (e, row e) | inr other ↦ inl (kept-here c other h at) ])
 
   rest-after : (c : ℕ) → counts t (one-more results b) c - 1 ≡ but-for t results b c
-  rest-after c =
-      elim (cases-eq c b) [
-        | inl e ↦ rw e (let m = more in omega arith)
-        | inr ne ↦ let s = same c ne in let o = but-for-other t results b c ne in omega arith
-      ]
+  rest-after = rest-one-more t results b small (asking .room .0)
 
   row-kept : (c : ℕ) → c ≢ b → gone (market t .wish) (counts t (one-more results b)) w c ≡ true → market t .wish .pos c w ≡ but-for t results b c → row-of t w c ≢ no-row
   row-kept c ne h at = kept-seated t ok w lw _ c (applicant c h) (kept-here c ne h at) .0
@@ -208,7 +156,7 @@ module _ (t : Tables) (ok : Proper t) (results benches part : List ℕ) (b w x y
   rowless-out none = y-is ∙ left-out-worthless (row-worth t) (row-of t w b) _ (ap (row-worth t) none ∙ row-worth-none t ok) ∙ sym is-x
 
   -- b has a seat that was empty
-  pub step-kept : y ≢ x → y ≡ no-row → After t Settled (one-more results b) (putMid (getD (t .seats) w 0) (places-at t w) benches part)
+  step-kept : y ≢ x → y ≡ no-row → After t Settled (one-more results b) (putMid (getD (t .seats) w 0) (places-at t w) benches part)
   unfolding at-rest
   step-kept ne none =
       let row : row-of t w b ≢ no-row = λ e. ne (none ∙ sym e ∙ sym is-x) in
@@ -226,14 +174,16 @@ module _ (t : Tables) (ok : Proper t) (results benches part : List ℕ) (b w x y
       let on : but-for t (one-more results b) o o ≡ but-for t results b o + 1 =
       (let in-y = gone-parts (market t .wish) _ w o h in let r = rest-after o in let f = but-for-same t (one-more results b) o in omega arith) in
       let some : 0 < getD (one-more results b) o 0 =
-      (let in-y = gone-parts (market t .wish) _ w o h in let e = counts-at t (one-more results b) o (applicant o h) in omega arith) in
-      ( applicant o h, some
-      , asking-on (but-for t (one-more results b) o)
-        (going-out (market t) (lawful t ok) _ _ _ (asking .going) b asker more same listed w entry-is o (but-for t (one-more results b) o) on
-        (λ c ne. but-for-other t (one-more results b) o c ne ∙ rest-after c) h at out kept) )
+      (let in-y = gone-parts (market t .wish) _ w o h in let e = counts-at t (one-more results b) o (applicant o h) in omega arith) in (
+        applicant o h,
+        some,
+        asking-on (but-for t (one-more results b) o)
+            (going-out (market t) (lawful t ok) _ _ _ (asking .going) b asker more same listed w entry-is o (but-for t (one-more results b) o) on
+            (λ c ne. but-for-other t (one-more results b) o c ne ∙ rest-after c) h at out kept),
+      )
 
   -- b has the seat of y
-  pub step-displaced : y ≢ x → y ≢ no-row → After t (Asks (getD (t .row-applicants) y 0)) (one-more results b) (putMid (getD (t .seats) w 0) (places-at t w) benches part)
+  step-displaced : y ≢ x → y ≢ no-row → After t (Asks (getD (t .row-applicants) y 0)) (one-more results b) (putMid (getD (t .seats) w 0) (places-at t w) benches part)
   step-displaced ne row =
       let f = out-not-kept t ok w lw _ _ b small new now same-gone y y-is row in
       let k : market t .keeps w (gone (market t .wish) (counts t results) w) (getD (t .row-applicants) y 0) ≡ true = elim (f .2) [ inl e ↦ absurd (ne (e ∙ sym is-x)) | inr k ↦ k ] in
@@ -246,7 +196,7 @@ module _ (t : Tables) (ok : Proper t) (results benches part : List ℕ) (b w x y
       (λ _ z. ne (rowless-out z)) h at)
 
   -- b is turned down
-  pub step-turned-down : y ≡ x → After t (Asks b) (one-more results b) (putMid (getD (t .seats) w 0) (places-at t w) benches part)
+  step-turned-down : y ≡ x → After t (Asks b) (one-more results b) (putMid (getD (t .seats) w 0) (places-at t w) benches part)
   step-turned-down e =
       let out : market t .keeps w (gone (market t .wish) (counts t (one-more results b)) w) b ≡ false =
       elim (cases-eq (row-of t w b) no-row) [
@@ -264,3 +214,19 @@ module _ (t : Tables) (ok : Proper t) (results benches part : List ℕ) (b w x y
       let i′ : row-of t w c ≡ row-of t w b = i ∙ e ∙ is-x in
       apart (sym (row-found t ok w lw c row .1) ∙ ap (λ (r : ℕ). getD (t .row-applicants) r 0) i′ ∙ row-found t ok w lw b (λ z. row (i′ ∙ z)) .1))
       (λ me. absurd (apart me)) h at)
+
+  -- what is behind the benches stays
+  pub step-behind : drop (getD (t .seats) (workshops t) 0) (putMid (getD (t .seats) w 0) (places-at t w) benches part) ≡ drop (getD (t .seats) (workshops t) 0) benches
+  step-behind = drop-behind t ok benches part w lw long (asking .room .1)
+
+  -- a row that is out is a row
+  pub step-row : (z : ℕ) → Displaced z ≡ answer-of x y → z < rows t
+  step-row z e =
+      let told = displaced-told x y z e in
+      let f = out-not-kept t ok w lw _ _ b small new now same-gone y y-is (told .1) in
+      rw (told .2) (row-small t ok w lw y (f .0))
+
+  pub step-answer : (r : Answer) → r ≡ answer-of x y → After t (turn-of t b r) (one-more results b) (putMid (getD (t .seats) w 0) (places-at t w) benches part)
+  step-answer Kept e = let told = kept-told x y e in step-kept (told .0) (told .1)
+  step-answer (Displaced z) e = let told = displaced-told x y z e in rw (told .2) (step-displaced (told .0) (told .1))
+  step-answer TurnedDown e = step-turned-down (turned-down-told x y e)

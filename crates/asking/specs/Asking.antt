@@ -10,6 +10,8 @@ use Rattle.layout.specs.Tables.{Tables, applicants, workshops}
 use Rattle.round.specs.Market.{Wish, Market, Reached, sum}
 use Rattle.points.specs.Standing.{market}
 use Rattle.asking.specs.Ended.{bench-of}
+use Rattle.bench.specs.declared.Answer.{Answer}
+use Rattle.bench.specs.declared.Answer.the-variants.{Kept, Displaced, TurnedDown}
 use Rattle.asking.specs.declared.Turn.{Turn}
 use Rattle.asking.specs.declared.Turn.the-variants.{Settled, Asks}
 
@@ -55,3 +57,9 @@ pub record Asking (t : Tables) (d : ℕ → ℕ) (results benches : List ℕ) : 
 abbrev pub After : Tables → Turn → List ℕ → List ℕ → Type 0
 After t Settled results benches = Asking t (at-rest t results) results benches
 After t (Asks c) results benches = (c < applicants t) × (0 < getD results c 0) × Asking t (but-for t results c) results benches
+
+-- who asks on after b's ask, by the answer to it
+abbrev pub turn-of : Tables → ℕ → Answer → Turn
+turn-of t b Kept = Settled
+turn-of t b (Displaced row) = Asks (getD (t .row-applicants) row 0)
+turn-of t b TurnedDown = Asks b

@@ -17,7 +17,13 @@ enum Turn {
 }
 
 // The applicant asks the next workshop of its list.
-fn ask_next(round: &Round, rows: &[u32], results: &mut [u16], benches: &mut [u32], asker: usize) -> Turn
+fn ask_next(
+    round: &Round,
+    rows: &[u32],
+    results: &mut [u16],
+    benches: &mut [u32],
+    asker: usize,
+) -> Turn
     requires applicant { ⌜ asker < applicants (tables-of (now round)) ⌝ }
     requires entry { ⌜ getD (now results) asker 0 < list-length (tables-of (now round)) asker ⌝ }
     requires found { ⌜ take (length (tables-of (now round) .entries)) (now rows) ≡ rows-found (tables-of (now round)) ⌝ }

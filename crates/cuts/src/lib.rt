@@ -2,7 +2,12 @@
 ghost use mathlib.Core.Path.{_≡_};
 ghost use Rattle.codec.specs.Rounds.{tables-of};
 ghost use Rattle.cuts.specs.Cuts.{cut-of-bench, reached};
+
+mod laws;
+
 use codec::Round;
+pub use laws::cuts_defined;
+pub use laws::told_by_cuts;
 use layout::Lot;
 use layout::LotDebug;
 use layout::LotPartialEq;
