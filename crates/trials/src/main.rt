@@ -27,72 +27,70 @@ fn tell(rt: &LibcRuntime, check: &str, seed: u64, case: &Case) -> io::Result<()>
     println!(rt, "")
 }
 
+fn line(rt: &LibcRuntime, what: &str, number: u32) -> io::Result<()> {
+    println!(rt, "{what} {number}")
+}
+
 fn tell_rounds(rt: &LibcRuntime, tally: &Tally) -> io::Result<()> {
-    let rounds = tally.rounds;
-    let stable = tally.stable_seen;
-    let several = tally.several;
-    let ties = tally.ties;
-    let lots = tally.lots_decide;
-    println!(rt, "random rounds {rounds}")?;
-    println!(
-        rt,
-        "  with equal points {ties}, where the lots decide {lots}"
-    )?;
-    println!(
-        rt,
-        "  stable assignments found {stable}, rounds with several {several}"
-    )
+    line(rt, "random rounds", tally.rounds)?;
+    line(rt, "  with equal points", tally.ties)?;
+    line(rt, "  where the lots decide", tally.lots_decide)?;
+    line(rt, "  with several stable assignments", tally.several)?;
+    line(rt, "stable assignments found", tally.stable_seen)
 }
 
 fn tell_checks(rt: &LibcRuntime, tally: &Tally) -> io::Result<()> {
-    let is_stable = tally.is_stable;
-    let dearest = tally.dearest;
-    let same_left = tally.same_left;
-    let together = tally.together;
-    let one_by_one = tally.one_by_one;
-    let renumbered = tally.renumbered;
-    let other_list = tally.other_list;
-    let one_more = tally.one_more;
     println!(rt, "checks passed")?;
-    println!(rt, "  the result is stable {is_stable}")?;
-    println!(
+    line(rt, "  the result is stable", tally.is_stable)?;
+    line(
         rt,
-        "  nobody has it dearer in a stable assignment {dearest}"
+        "  nobody has it dearer in a stable assignment",
+        tally.dearest,
     )?;
-    println!(rt, "  the same applicants and places are left {same_left}")?;
-    println!(rt, "  all together, same result and asks {together}")?;
-    println!(
+    line(
         rt,
-        "  one by one in a random order, same result and asks {one_by_one}"
+        "  the same applicants and places are left",
+        tally.same_left,
     )?;
-    println!(
+    line(rt, "  all together, same result and asks", tally.together)?;
+    line(
         rt,
-        "  applicants numbered anew, same result and asks {renumbered}"
+        "  one by one in a random order, same result and asks",
+        tally.one_by_one,
     )?;
-    println!(rt, "  another list gets nothing dearer {other_list}")?;
-    println!(
+    line(
         rt,
-        "  an applicant more gets nobody else anything dearer {one_more}"
+        "  applicants numbered anew, same result and asks",
+        tally.renumbered,
+    )?;
+    line(rt, "  another list gets nothing dearer", tally.other_list)?;
+    line(
+        rt,
+        "  an applicant more gets nobody else anything dearer",
+        tally.one_more,
     )
 }
 
 fn tell_cuts(rt: &LibcRuntime, tally: &Tally) -> io::Result<()> {
-    let cuts = tally.cuts;
-    let first_reached = tally.first_reached;
-    let letters = tally.letters;
-    let judged = tally.judged;
-    println!(rt, "  a cut is the last who is kept, open or shut {cuts}")?;
-    println!(
+    line(
         rt,
-        "  what was got is the first wish whose cut is reached {first_reached}"
+        "  a cut is the last who is kept, open or shut",
+        tally.cuts,
     )?;
-    println!(
+    line(
         rt,
-        "  all letters of a round as the trials write them {letters}"
+        "  what was got is the first wish whose cut is reached",
+        tally.first_reached,
     )?;
-    println!(
+    line(
         rt,
-        "  of an applicant's letters the right one is accepted and no other {judged}"
+        "  all letters of a round as the trials write them",
+        tally.letters,
+    )?;
+    line(
+        rt,
+        "  of an applicant's letters the right one is accepted and no other",
+        tally.judged,
     )
 }
 
@@ -119,8 +117,11 @@ fn worked_rounds(rt: &LibcRuntime) -> io::Result<u64> {
             bad = bad.saturating_add(1);
         }
     }
-    let worked = tally.worked;
-    println!(rt, "worked rounds that come out as in the table {worked}")?;
+    line(
+        rt,
+        "worked rounds that come out as in the table",
+        tally.worked,
+    )?;
     Ok(bad)
 }
 
