@@ -10,7 +10,7 @@ use lib.ListN.{length, take}
 use Rattle.std.proofs.shelf.Tests.{cases-lt, cond-true, and-from, and-parts, cases-eq, ne-eqb, cond-false, le-ltb, lt-ltb}
 use Rattle.std.proofs.shelf.Ways.{tells}
 use Rattle.layout.specs.Tables.{has}
-use Rattle.bench.specs.Row.{after, out, leads, taken-in, last-seat, left-out}
+use Rattle.bench.specs.Row.{after, after-all, out, leads, taken-in, last-seat, left-out}
 use Rattle.bench.specs.Best.{number, above, Best-first}
 use Rattle.bench.proofs.Shift.{cond-same, leads-false}
 use Rattle.bench.proofs.Numbers.{has-here, has-there, has-cases, number-le, number-none, has-number, number-has, number-between}
@@ -182,3 +182,8 @@ module _ (v : ℕ → ℕ) where
             ∙ sym (cond-true _ _ _ (lt-ltb (v y) (v x) h))
         | inr h ↦ left-out-out x (z ∷ zs) (sorted .1) ∙ sym (cond-false _ _ _ (le-ltb (v y) (v x) h))
       ]
+
+  pub length-after-all : (xs b : List ℕ) → length (after-all v xs b) ≡ length b
+  unfolding after-all
+  length-after-all [] b = refl
+  length-after-all (x ∷ xs) b = length-after-all xs (after v x b) ∙ length-after x b

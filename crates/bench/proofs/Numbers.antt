@@ -7,8 +7,12 @@ use Prim.Native.Nat.{ℕ, zero, suc, _+_, _≤_, _<_}
 use native.Mathlib.Omega.{arith}
 use lib.Dec.{ltb, eqb}
 use lib.ListN.{length}
-use Rattle.std.proofs.shelf.Tests.{cases-bool, cases-lt, eq-eqb, or-cases, or-left, or-right, eqb-true, false≢true}
+use Rattle.std.proofs.shelf.Tests.{cases-bool, cases-lt, lt-ltb, le-ltb, eq-eqb, or-cases, or-left, or-right, eqb-true, false≢true}
 use Rattle.std.proofs.shelf.Ways.{tells}
+use Rattle.std.specs.Slices.{Shuffled}
+use Rattle.std.specs.shelf.Lists.{sumBy}
+use Rattle.std.proofs.shelf.Sums.{sumBy-cons}
+use Rattle.std.proofs.shelf.Sorted.{sumBy-shuffled}
 use Rattle.layout.specs.Tables.{has}
 use Rattle.bench.specs.Best.{number}
 
@@ -55,6 +59,14 @@ number-none p (x ∷ xs) fails =
     let rest = number-none p xs (λ z k. fails z (or-right _ _ k)) in
     let here : p x ≡ false = fails x (or-left _ _ (eq-eqb x x refl)) in
     rw here (omega arith)
+
+pub number-same : (p q : ℕ → Bool) (xs : List ℕ) → ((x : ℕ) → has x xs ≡ true → p x ≡ q x) → number p xs ≡ number q xs
+unfolding number has
+number-same p q [] same = refl
+number-same p q (x ∷ xs) same =
+    let rest = number-same p q xs (λ z k. same z (has-there z x xs k)) in
+    let here = same x (has-here x xs) in
+    cc
 
 -- a test that passes where another does, and at some x of the list where the other does not, passes more often
 module _ (p q : ℕ → Bool) (wider : (x : ℕ) → p x ≡ true → q x ≡ true) where
@@ -111,6 +123,13 @@ number-has x (y ∷ ys) h =
       | inr k ↦ omega (arith, number-has x ys k)
     ]
 
+pub has-is : (x : ℕ) (xs : List ℕ) → has x xs ≡ ltb 0 (number (eqb x) xs)
+has-is x xs =
+    elim (cases-lt 0 (number (eqb x) xs)) [
+      | inl k ↦ has-number x xs k ∙ sym (lt-ltb 0 (number (eqb x) xs) k)
+      | inr k ↦ (elim (cases-bool (has x xs)) [ inl h ↦ absurd (omega (arith, number-has x xs h)) | inr h ↦ h ∙ sym (le-ltb 0 (number (eqb x) xs) k) ])
+    ]
+
 -- lists with the same numbers, whatever the test, have the same members
 pub has-same : (xs ys : List ℕ) → ((p : ℕ → Bool) → number p xs ≡ number p ys) → (x : ℕ) → has x xs ≡ true → has x ys ≡ true
 has-same xs ys same x h = has-number x ys (omega (arith, number-has x xs h, same (eqb x)))
@@ -122,3 +141,12 @@ has-right x xs ys h = has-number x (xs ++ ys) (omega (arith, number-has x ys h, 
 pub number-middle : (p : ℕ → Bool) (x : ℕ) (xs ys : List ℕ) → number p (xs ++ x ∷ ys) ≡ number p (x ∷ (xs ++ ys))
 unfolding number
 number-middle p x xs ys = omega (arith, number-append p xs (x ∷ ys), number-append p xs ys)
+
+-- a shuffled list has the same numbers
+number-sum : (p : ℕ → Bool) (xs : List ℕ) → number p xs ≡ sumBy (λ x. cond (p x) 1 0) xs
+unfolding number
+number-sum p [] = refl
+number-sum p (x ∷ xs) = omega (arith, number-sum p xs, sumBy-cons (λ z. cond {A = ℕ} (p z) 1 0) x xs)
+
+pub number-shuffled : (xs ys : List ℕ) → Shuffled xs ys → (p : ℕ → Bool) → number p xs ≡ number p ys
+number-shuffled xs ys h p = number-sum p xs ∙ sym (sumBy-shuffled (λ x. cond {A = ℕ} (p x) 1 0) xs ys h) ∙ sym (number-sum p ys)

@@ -5,7 +5,7 @@ ghost use lib.Dec.{eqb};
 ghost use Rattle.codec.specs.Rounds.{tables-of};
 ghost use Rattle.points.specs.Standing.{row-worth, no-row};
 ghost use Rattle.bench.specs.Row.{taken-in, left-out, answer-of};
-ghost use Rattle.bench.specs.Best.{Keeps-best};
+ghost use Rattle.bench.specs.Best.{Keeps-best, All-asks, Any-order, Seats-taken, Up-or-down};
 ghost use Rattle.bench.specs.declared.Answer.the-variants.{Kept, Displaced};
 use codec::Round;
 
@@ -51,4 +51,34 @@ fn seated(last: u32) -> Answer
     } else {
         Answer::Displaced(last)
     }
+}
+
+// What holds of benches after any row of asks, each theorem on the contract of a function.
+
+// The bench holds the best of those who asked and have points, as many as it has places.
+pub fn all_asks() -> u8
+    ensures { λ _. ⌜ All-asks ⌝ }
+{
+    0
+}
+
+// The order of asking does not matter.
+pub fn any_order() -> u8
+    ensures { λ _. ⌜ Any-order ⌝ }
+{
+    0
+}
+
+// As many seats are taken as there are askers with points, up to the number of places.
+pub fn seats_taken() -> u8
+    ensures { λ _. ⌜ Seats-taken ⌝ }
+{
+    0
+}
+
+// Asking up from the last seat is asking down from the first.
+pub fn up_or_down() -> u8
+    ensures { λ _. ⌜ Up-or-down ⌝ }
+{
+    0
 }

@@ -1,1 +1,4 @@
+pub mod Fronts
+pub mod Puts
+pub mod Readers
 pub mod Rounds

@@ -4,9 +4,13 @@ ghost use lib.Dec.{ltb};
 ghost use Rattle.round.specs.ByPoints.{worth-of};
 ghost use Rattle.codec.specs.Rounds.{tables-of};
 ghost use Rattle.points.specs.Standing.{points-of-row, lot-of-row, row-worth};
+
+mod merge;
+
 use codec::Round;
 use layout::Lot;
 use layout::Points;
+pub use merge::find_rows;
 
 // Of two applicants at a workshop the one with more points goes ahead, and with equal points the one with the lower lot. Nobody goes
 // ahead without points.

@@ -1,13 +1,12 @@
 -- Keeping the best by points is a lawful way of keeping, where no two have the same worth at a workshop.
 -- In order: whom it keeps, in words; no more than the places; as many as it can; the laws.
-use mathlib.Core.Path.{_≡_, refl, sym, _∙_}
+use mathlib.Core.Path.{_≡_}
 use mathlib.Core.Bool.{Bool, true, false, not, _&&_, _||_}
-use mathlib.Core.Logic.{_⊎_, inl, inr, _≢_}
+use mathlib.Core.Logic.{_⊎_, inl, inr}
 use Prim.Native.Nat.{ℕ, _+_, _≤_, _<_}
 use native.Mathlib.Omega.{arith}
 use lib.Dec.{eqb, leb, ltb}
 use Rattle.std.proofs.shelf.Ways.{tells}
-use Rattle.std.proofs.shelf.Tests.{cases-lt}
 use Rattle.round.specs.Market.{Way, Within, count}
 use Rattle.round.specs.ByPoints.{ahead-of, keeps-best}
 use Rattle.round.proofs.Count.{count-mono, count-but-one, count-none, best, least}
@@ -37,14 +36,6 @@ module _ (places : ℕ → ℕ) (worth : ℕ → ℕ → ℕ) (n : ℕ) where
   pub ahead-mono : (p : ℕ) (X Y : ℕ → Bool) → Within X Y → (a : ℕ) → ahead-of worth n p X a ≤ ahead-of worth n p Y a
   unfolding ahead-of Within
   ahead-mono p X Y h a = count-mono _ _ n (λ b _ e. let y = h b in grind arith)
-
-  -- whoever asked and goes ahead of somebody kept is kept too
-  pub ahead-kept : (p : ℕ) (X : ℕ → Bool) (a b : ℕ) → keeps-best places worth n p X a ≡ true → X b ≡ true → worth p a < worth p b → keeps-best places worth n p X b ≡ true
-  unfolding ahead-of
-  ahead-kept p X a b k x l =
-      let fa = kept-facts p X a k in
-      let fewer : ahead-of worth n p X b ≤ ahead-of worth n p X a = count-mono _ _ n (λ c _ e. grind (arith, tells)) in
-      kept-from p X b x (omega arith) (omega arith)
 
   module _ (one : (p a b : ℕ) → a < n → b < n → 0 < worth p a → worth p a ≡ worth p b → a ≡ b) where
     -- at most as many are kept as there are places: all others of those kept go ahead of the one with the least worth

@@ -1,20 +1,20 @@
 -- The given step-by-step definitions are those of the round's market. The given `refused` looks at those who ask now; where all who
 -- have passed a workshop were rightly turned down there, this is the same as being turned down out of all who have asked.
 use mathlib.Core.Path.{_≡_, refl, sym, ap, subst, _∙_, fun-ext}
-use mathlib.Core.Bool.{Bool, true, false, cond, not, _&&_, _||_}
+use mathlib.Core.Bool.{true}
 use mathlib.Core.List.{List, [], _∷_}
-use mathlib.Core.Logic.{_⊎_, inl, inr}
-use Prim.Native.Nat.{ℕ, zero, suc, _+_, _≤_, _<_}
+use mathlib.Core.Logic.{inl, inr}
+use Prim.Native.Nat.{ℕ, zero, suc, _+_, _<_}
 use native.Mathlib.Omega.{arith}
 use lib.ListN.{length, getD, List·getD-eq-default}
-use lib.Dec.{eqb, leb, ltb}
-use Rattle.std.proofs.shelf.Ways.{tells, same-from-decides, decides-eqb}
+use lib.Dec.{eqb}
+use Rattle.std.proofs.shelf.Ways.{same-from-decides, decides-eqb}
 use Rattle.std.proofs.shelf.Tests.{lt-ltb, le-ltb, and-left, cond-true, cond-false, cases-lt}
-use Rattle.round.specs.Places.{Round, point, nowhere, ahead, refused, step, steps, total, result, pick}
+use Rattle.round.specs.Places.{Round, point, nowhere, ahead, refused, steps, total, result}
 use Rattle.round.specs.Places.{asked as asks-now}
 use Rattle.round.specs.Promise.{Proper, rank}
-use Rattle.round.specs.Market.{Market, Lawful, Listed, Within, Reached, Justified, asked, here, turned, move, run, final, entries, asks, asks-at, got, held, count, sum}
-use Rattle.round.specs.ByPoints.{wish-of, market-of, keeps-best, ahead-of}
+use Rattle.round.specs.Market.{Listed, Justified, asked, here, turned, move, run, final, entries, asks, asks-at, got, held, count, sum}
+use Rattle.round.specs.ByPoints.{wish-of, market-of, ahead-of}
 use Rattle.round.specs.Office.{asks-of, asks-from, By-market}
 use Rattle.round.proofs.Askers.{here-from, here-parts, here-within, turned-parts, irc}
 use Rattle.round.proofs.Best.{not-kept}

@@ -1,16 +1,15 @@
 -- Cuts: the round's are cuts, what somebody got is a place whose cut it reaches, and it is the first such of its list.
-use mathlib.Core.Path.{_≡_, refl, sym, ap, subst, _∙_}
-use mathlib.Core.Bool.{Bool, true, false, _&&_}
+use mathlib.Core.Path.{_≡_, refl, sym, subst, _∙_}
+use mathlib.Core.Bool.{Bool, true, false}
 use mathlib.Core.List.{List, [], _∷_}
 use mathlib.Core.Logic.{_⊎_, inl, inr}
-use Prim.Native.Nat.{ℕ, zero, suc, _+_, _≤_, _<_, min}
+use Prim.Native.Nat.{ℕ, zero, suc, _≤_, _<_, min}
 use native.Mathlib.Omega.{arith}
-use lib.Dec.{eqb, leb, ltb}
 use lib.ListN.{length, getD}
 use Rattle.std.proofs.shelf.Counted.{getD-map-counting}
 use Rattle.std.proofs.shelf.Ways.{tells}
 use Rattle.std.proofs.shelf.Tests.{eq-eqb, cases-lt, cases-eq}
-use Rattle.round.specs.Places.{Round, point, nowhere, result, pick}
+use Rattle.round.specs.Places.{Round, point, nowhere, result}
 use Rattle.round.specs.Promise.{Proper, Stable, Cut, Readable, rank, given}
 use Rattle.round.specs.Cuts.{lowest, cut-at, cuts-of, reaches, first-of, Has-cuts, Reached-cut, First-reached}
 use Rattle.round.proofs.Count.{count-pos, below-suc}

@@ -1,22 +1,22 @@
 -- Asking by the given `refused`, one after the other, in groups or all together: all orders come to one end.
-use mathlib.Core.Path.{_≡_, refl, sym, ap, fun-ext, _∙_}
-use mathlib.Core.Bool.{Bool, true, false}
-use mathlib.Core.List.{List, []}
-use mathlib.Core.Logic.{_⊎_, inl, inr}
-use Prim.Native.Nat.{ℕ, _+_, _≤_, _<_}
+use mathlib.Core.Path.{_≡_, sym, ap, fun-ext, _∙_}
+use mathlib.Core.Bool.{false}
+use mathlib.Core.List.{List}
+use mathlib.Core.Logic.{inl, inr}
+use Prim.Native.Nat.{ℕ, zero, suc, _<_}
 use native.Mathlib.Omega.{arith}
 use lib.ListN.{length, getD, length-replicate, List·getD-eq-default}
-use Rattle.std.proofs.shelf.Tests.{cases-lt}
-use Rattle.round.specs.Places.{Round, refused, steps, total, result, asked}
-use Rattle.round.specs.Promise.{Proper}
-use Rattle.round.specs.Market.{Reached, start, then, Moves, Closed, turned, final, got, held, asks, asks-at, entries}
+use Rattle.std.proofs.shelf.Tests.{cases-lt, cases-bool}
+use Rattle.round.specs.Places.{Round, refused, steps, total}
+use Rattle.round.specs.Promise.{Proper, Ends}
+use Rattle.round.specs.Market.{Reached, start, then, Moves, Closed, got, held, asks-at, entries}
 use Rattle.round.specs.ByPoints.{wish-of, market-of}
-use Rattle.round.specs.Office.{Any-order, Comes-to, first, next, Goes-on, asks-from}
+use Rattle.round.specs.Office.{Any-order, All-together, Comes-to, first, next, Goes-on, asks-from}
 use Rattle.round.proofs.Askers.{turned-parts}
 use Rattle.round.proofs.Ends.{reached-justified, closed-from-quiet}
 use Rattle.round.proofs.Theorems.{same-end, few-asks}
 use Rattle.round.proofs.Ranks.{market-lawful}
-use Rattle.round.proofs.Ending.{getD-steps-none}
+use Rattle.round.proofs.Ending.{length-steps, getD-steps-none, getD-steps-more, ends}
 use Rattle.round.proofs.Bridge.{state-of, total-sum, refused-turned, asks-held, result-got, asks-same}
 
 module _ (r : Round) (ok : Proper r) where
@@ -72,3 +72,29 @@ any-order r at ok comes none =
       end .1 ∙ sym same,
       omega arith,
     )
+
+-- a given step is one in which all who are turned down go on
+step-goes-on : (r : Round) (t : ℕ) → Goes-on r (steps r t) (steps r (suc t))
+step-goes-on r t =
+    record {
+      long = length-steps r (suc t) ∙ sym (length-steps r t);
+      each =
+          λ a l.
+          let e = getD-steps-more r t a l in
+          elim (cases-bool (refused r (steps r t) a)) [ inl h ↦ inr (h, grind arith) | inr h ↦ inl (grind arith) ];
+    }
+
+steps-come : (r : Round) (t : ℕ) → Comes-to r (steps r t)
+unfolding steps
+steps-come r zero = first
+steps-come r (suc t) = next (steps r t) (steps r (suc t)) (steps-come r t) (step-goes-on r t)
+
+pub all-together : All-together
+unfolding All-together Ends steps
+all-together r = (
+  steps-come r,
+  λ a l.
+      let more = getD-steps-more r (total (r .lists)) a l in
+      let same = ap {B = ℕ} (λ (at : List ℕ). getD at a 0) (ends r) in
+      grind arith,
+)

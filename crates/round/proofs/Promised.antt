@@ -1,24 +1,23 @@
 -- The given statements, and those beyond them, each with its proof: what the contracts of src/given.rt and the crates above cite.
 use mathlib.Core.Path.{_≡_, refl, sym, ap, subst, fun-ext, _∙_}
-use mathlib.Core.Bool.{Bool, true, false}
+use mathlib.Core.Bool.{false}
 use mathlib.Core.List.{List, []}
-use mathlib.Core.Logic.{_⊎_, inl, inr, _≢_}
-use Prim.Native.Nat.{ℕ, zero, suc, _+_, _≤_, _<_}
+use mathlib.Core.Logic.{inl, inr, _≢_}
+use Prim.Native.Nat.{ℕ, _≤_, _<_}
 use native.Mathlib.Omega.{arith}
 use lib.ListN.{length, getD, set, length-set}
 use lib.Seq.{getD-set-same, getD-set-other}
 use Rattle.std.proofs.shelf.Ways.{tells}
-use Rattle.std.proofs.shelf.Tests.{cases-lt}
-use Rattle.round.specs.Places.{Round, point, nowhere, result, refused, steps, total}
-use Rattle.round.specs.Promise.{Proper, Stable, rank, given, with-list, Truthful, Best-stable, Same-left, More-applicants}
-use Rattle.round.specs.Market.{Market, Lawful, Stable-at, final, got, held, placed-at}
+use Rattle.round.specs.Places.{Round, point, nowhere, result}
+use Rattle.round.specs.Promise.{Proper, Stable, rank, with-list, Truthful, Best-stable, Same-left, More-applicants}
+use Rattle.round.specs.Market.{Market, Lawful, final, got, placed-at}
 use Rattle.round.specs.Laws.{with-wish, Agrees}
 use Rattle.round.specs.ByPoints.{keeps-best, wish-of, market-of}
 use Rattle.round.specs.Office.{position-of, with-lists, Not-all-liars-gain}
 use Rattle.round.proofs.Theorems.{end-stable, end-dearest, same-numbers, one-more, not-all-gain, no-gain}
-use Rattle.round.proofs.Ranks.{rank-bound, rank-nowhere, market-lawful}
+use Rattle.round.proofs.Ranks.{rank-nowhere, market-lawful}
 use Rattle.round.proofs.Bridge.{result-got}
-use Rattle.round.proofs.Same.{Assigns, stable-assigns, stable-from-given, stable-held, position-held, count-given}
+use Rattle.round.proofs.Same.{stable-assigns, stable-from-given, stable-held, position-held, count-given}
 
 -- what somebody got stands at its last position
 pub rank-result : (r : Round) → Proper r → (a : ℕ) → rank (getD (r .lists) a []) (result r a) ≡ final (market-of r) a

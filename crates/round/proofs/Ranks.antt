@@ -1,16 +1,15 @@
 -- Lists and ranks: what stands at a programme's rank, the rank of what stands at a position; the lists of a proper round are
 -- lawful, and so is its market.
-use mathlib.Core.Path.{_≡_, refl, sym, ap, _∙_}
+use mathlib.Core.Path.{_≡_, ap, _∙_}
 use mathlib.Core.List.{List, [], _∷_}
-use mathlib.Core.Logic.{_⊎_, inl, inr}
+use mathlib.Core.Logic.{inl, inr}
 use Prim.Native.Nat.{ℕ, zero, suc, _≤_, _<_}
 use native.Mathlib.Omega.{arith}
 use lib.ListN.{length, getD, List·getD-eq-default}
-use lib.Dec.{eqb}
 use Rattle.std.proofs.shelf.Ways.{tells}
 use Rattle.std.proofs.shelf.Tests.{cases-lt}
 use Rattle.std.proofs.shelf.Lists.{getD-default}
-use Rattle.round.specs.Places.{Round, point, nowhere, pick}
+use Rattle.round.specs.Places.{Round}
 use Rattle.round.specs.Promise.{Distinct, Proper, rank}
 use Rattle.round.specs.Market.{Listed, Lawful}
 use Rattle.round.specs.ByPoints.{wish-of, market-of}

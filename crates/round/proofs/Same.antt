@@ -1,19 +1,19 @@
 -- The given stable assignments are the stable states of the round's market: an assignment gives each applicant a position of its
 -- list, that of the workshop it has, and a state gives each the workshop it holds.
 use mathlib.Core.Path.{_≡_, refl, sym, ap, subst, fun-ext, _∙_}
-use mathlib.Core.Bool.{Bool, true, false, cond, _&&_}
-use mathlib.Core.List.{List, []}
+use mathlib.Core.Bool.{true, false, _&&_}
+use mathlib.Core.List.{[]}
 use mathlib.Core.Logic.{_⊎_, inl, inr}
-use Prim.Native.Nat.{ℕ, zero, suc, _+_, _≤_, _<_}
+use Prim.Native.Nat.{ℕ, zero, suc, _≤_, _<_}
 use native.Mathlib.Omega.{arith}
 use lib.ListN.{length, getD}
 use lib.Dec.{eqb, ltb}
 use Rattle.std.proofs.shelf.Ways.{tells, same-from-decides, decides-eqb}
 use Rattle.std.proofs.shelf.Tests.{eqb-true, eq-eqb, ltb-true, lt-ltb, le-ltb, and-parts, and-from, and-right, cond-true, cond-false, cases-eq, cases-lt, cases-bool}
-use Rattle.round.specs.Places.{Round, point, nowhere, pick}
+use Rattle.round.specs.Places.{Round, point, nowhere}
 use Rattle.round.specs.Promise.{Proper, Stable, rank, given}
-use Rattle.round.specs.Market.{Market, Lawful, Listed, Stable-at, here, held, joined-by, count}
-use Rattle.round.specs.ByPoints.{wish-of, market-of, keeps-best, ahead-of}
+use Rattle.round.specs.Market.{Market, Stable-at, here, held, joined-by, count}
+use Rattle.round.specs.ByPoints.{wish-of, market-of, ahead-of}
 use Rattle.round.specs.Office.{position-of, Same-stable}
 use Rattle.round.proofs.Count.{count-mono, count-same, count-less, count-all}
 use Rattle.round.proofs.Askers.{here-from, here-parts}

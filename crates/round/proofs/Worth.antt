@@ -1,7 +1,7 @@
 -- A worth orders by points first and then by the lower lot: what `worth-of` says in the words of points and lots.
 use mathlib.Core.Path.{_≡_, refl}
 use mathlib.Core.Logic.{_⊎_, inl, inr}
-use Prim.Native.Nat.{ℕ, _≤_, _<_}
+use Prim.Native.Nat.{ℕ, _<_}
 use native.Mathlib.Omega.{arith}
 use Rattle.std.proofs.shelf.Ways.{tells}
 use Rattle.round.specs.ByPoints.{worth-of}

@@ -33,6 +33,11 @@ pub data Comes-to (r : Round) : List ℕ → Type 0 where
   first : Comes-to r (replicate (length (r .lists)) 0)
   next : (at to : List ℕ) → Comes-to r at → Goes-on r at to → Comes-to r to
 
+-- all together is one of the orders, and after as many steps as there are entries nobody is turned down
+unfoldable pub All-together : Type 0
+All-together =
+    (r : Round) → ((t : ℕ) → Comes-to r (steps r t)) × ((a : ℕ) → a < length (r .lists) → refused r (steps r (total (r .lists))) a ≡ false)
+
 -- whatever the order: where nobody is turned down any more, everybody asks what the result gives it, and the asks were as many; never
 -- more than there are entries in all lists
 unfoldable pub Any-order : Type 0

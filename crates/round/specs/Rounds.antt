@@ -11,7 +11,7 @@ use Rattle.std.specs.Iters.{counting}
 use Rattle.std.specs.Orderings.{Decides}
 use Rattle.std.specs.shelf.Lists.{All}
 use Rattle.round.specs.Places.{Round, result, nowhere, pick}
-use Rattle.round.specs.Promise.{Stable}
+use Rattle.round.specs.Promise.{Proper, Stable}
 use Rattle.round.specs.ByPoints.{worth-of}
 use Rattle.round.specs.Cuts.{Told, is-open, is-shut, is-full, told-at}
 use Rattle.round.specs.Office.{asks-of}
@@ -91,6 +91,10 @@ worked =
 -- of each round in the table comes out what stands beside it
 unfoldable pub Worked-out : Type 0
 Worked-out = map (λ w. outcome-of (w .round)) worked ≡ map (λ w. w .outcome) worked
+
+-- and each of them is a proper round, so that all that is promised holds of it
+unfoldable pub All-proper : Type 0
+All-proper = All (λ w. Proper (w .round)) worked
 
 -- an assignment written as a list; who does not stand in it is nowhere
 unfoldable pub assignment : Round → List (Option ℕ) → ℕ → ℕ

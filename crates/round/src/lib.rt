@@ -1,8 +1,11 @@
-// A small instance, proved: whom a programme keeps of two, when it has one place.
+// What holds of every round, each theorem on the contract of a function. The definitions and statements stand in specs/: Places and
+// Promise (a round, what is promised), Market and Laws (the theory, for every way of keeping), ByPoints (points and lots as one),
+// Office, Cuts and Rounds (more promises, cuts, the worked rounds).
 ghost use mathlib.Core.Path.{_≡_};
 ghost use Rattle.round.specs.Laws.{Same-end, End-closed, Few-asks, End-stable, End-dearest, Same-numbers, One-more, Not-all-gain, No-gain};
 ghost use Rattle.round.specs.Places.{keep};
 
+// A small instance: whom a workshop keeps of two, when it has one place.
 pub fn keep_of(a: u32, b: u32, pa: u32, pb: u32) -> u32
     ensures { λ r. ⌜ r ≡ keep a b pa pb ⌝ }
 {
@@ -73,3 +76,25 @@ pub fn no_gain() -> u8
 {
     0
 }
+
+// What is promised of every round: the given statements and those beyond them.
+mod given;
+
+pub use given::all_proper;
+pub use given::all_together;
+pub use given::any_order;
+pub use given::best_stable;
+pub use given::by_market;
+pub use given::by_points;
+pub use given::first_reached;
+pub use given::has_cuts;
+pub use given::more_applicants;
+pub use given::not_all_liars_gain;
+pub use given::reached_cut;
+pub use given::readable;
+pub use given::same_left;
+pub use given::same_stable;
+pub use given::steps_end;
+pub use given::told_apart;
+pub use given::truthful;
+pub use given::worked_out;

@@ -1,0 +1,5 @@
+use Rattle.bench.proofs.Orders.{seats-taken}
+use Rattle.bench.proofs.seats_taken.Needs as need
+
+pub returns : need.returns
+returns c = λ v places xs none. seats-taken v none places xs

@@ -1,0 +1,10 @@
+pub mod Answered
+pub mod Checked
+pub mod Faults
+pub mod Fills
+pub mod Firsts
+pub mod Fronts
+pub mod Lists
+pub mod Puts
+pub mod Rows
+pub mod Sheets

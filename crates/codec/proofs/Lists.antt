@@ -1,0 +1,77 @@
+-- The list of a record, judged by its place: the same as judged by the applicant.
+use mathlib.Core.Path.{_≡_, refl, sym, ap, fun-ext}
+use mathlib.Core.Bool.{Bool, true, false, _||_}
+use mathlib.Core.List.{List}
+use Prim.Native.Nat.{ℕ, zero, suc, _+_, _≤_, _<_}
+use native.Mathlib.Numerals.{add-one}
+use native.Mathlib.Omega.{arith}
+use lib.Dec.{eqb}
+use lib.ListN.{length, getD, set, replicate}
+use Rattle.std.proofs.shelf.Lists.{getD-replicate, getD-set-same, getD-set-other}
+use Rattle.std.proofs.shelf.Tests.{cases-eq}
+use Rattle.std.proofs.shelf.Ways.{tells}
+use Rattle.std.specs.declared.option.Option.the-variants.{Some, None}
+use Rattle.layout.specs.Slices.{or-else}
+use Rattle.layout.specs.Bytes.{byte, word, first-of, record-at, workshops-in, missing, refuse, entry-in, entry-seen, entry-fault, lot-in, lot-seen, record-fault}
+use Rattle.layout.specs.declared.Refusal.{Refusal}
+use Rattle.layout.specs.declared.Refusal.the-variants.{Short, LotTaken}
+use Rattle.codec.specs.Readers.{stands-in, entry-fault-at, list-fault-at}
+use Rattle.layout.proofs.Firsts.{first-of-at}
+use Rattle.layout.proofs.Offsets.{record-at-more}
+
+pub stands-in-more : (b : List ℕ) («from» w j : ℕ) → stands-in b «from» w (j + 1) ≡ (eqb (byte b («from» + j)) w || stands-in b «from» w j)
+unfolding stands-in
+stands-in-more b «from» w j = rw add-one
+
+-- the count is there and no more than the most, so the first entry at fault is the list's fault
+pub list-refused : (b : List ℕ) (m at j : ℕ) (e : Refusal) → at + 3 ≤ length b → byte b (at + 2) ≤ 20 → j < byte b (at + 2) →
+    first-of (entry-fault-at b m at) j ≡ None → entry-fault-at b m at j ≡ Some e → list-fault-at b m at ≡ Some e
+list-refused b m at j e l k i h g = let s = first-of-at (entry-fault-at b m at) (byte b (at + 2)) j e h g i in grind (arith, tells)
+
+module _ (b : List ℕ) (a : ℕ) where
+  entry-seen-is : (w j : ℕ) → entry-seen b a w j ≡ stands-in b (record-at b a + 3) w j
+  unfolding entry-seen stands-in
+  entry-seen-is w zero = refl
+  entry-seen-is w (suc j) = ap (λ t. eqb (entry-in b a j) w || t) (entry-seen-is w j)
+
+  entry-fault-is : entry-fault b a ≡ entry-fault-at b (workshops-in b) (record-at b a)
+  entry-fault-is =
+      fun-ext λ j. rw entry-seen-is
+
+  -- a's record by its place
+  pub record-fault-is : record-fault b a ≡
+      or-else (missing b (record-at b a) 2)
+      (or-else (refuse (lot-seen b (word b (record-at b a)) a) (LotTaken (record-at b a))) (list-fault-at b (workshops-in b) (record-at b a)))
+  record-fault-is = rw entry-fault-is
+
+  -- what judges the record, where its lot is missing, taken or new
+  module _ (at : ℕ) (place : at ≡ record-at b a) where
+    pub record-short : length b < at + 2 → record-fault b a ≡ Some (Short (length b))
+    record-short l = rw (record-fault-is, ← place) grind (arith, tells)
+
+    pub record-taken : at + 2 ≤ length b → lot-seen b (word b at) a ≡ true → record-fault b a ≡ Some (LotTaken at)
+    record-taken l t = rw (record-fault-is, ← place) grind (arith, tells)
+
+    pub record-by-list : (m : ℕ) → m ≡ workshops-in b → at + 2 ≤ length b → lot-seen b (word b at) a ≡ false → record-fault b a ≡ list-fault-at b m at
+    record-by-list m e l t = rw (record-fault-is, ← place, e) grind (arith, tells)
+
+    pub record-after : record-at b (a + 1) ≡ at + 3 + byte b (at + 2)
+    record-after = rw place (record-at-more b a)
+
+-- the array of the lots seen: what it says of the lot at a place, before any applicant, and after one more
+pub lot-seen-is : (b : List ℕ) (a at lot : ℕ) (seen : List Bool) → lot ≡ word b at → lot < 65536 →
+    ((v : ℕ) → v < 65536 → getD seen v false ≡ lot-seen b v a) → lot-seen b (word b at) a ≡ getD seen lot false
+lot-seen-is b a at lot seen e l h = rw (← e) (sym (h lot l))
+
+pub seen-none : (b : List ℕ) (v : ℕ) → v < 65536 → getD (replicate 65536 false) v false ≡ lot-seen b v 0
+unfolding lot-seen
+seen-none b v l = getD-replicate 65536 v false false l
+
+pub seen-more : (b : List ℕ) (a lot : ℕ) (seen : List Bool) → length seen ≡ 65536 → lot ≡ lot-in b a → lot < 65536 →
+    ((v : ℕ) → v < 65536 → getD seen v false ≡ lot-seen b v a) → (v : ℕ) → v < 65536 → getD (set seen lot true) v false ≡ lot-seen b v (a + 1)
+unfolding lot-seen
+seen-more b a lot seen n e l h v k =
+    let old = h v k in
+    let w = getD-set-same seen lot true false in
+    let o = getD-set-other seen lot v true false in
+    let s = cases-eq v lot in rw add-one grind (arith, tells)
