@@ -39,7 +39,9 @@ pub fn run(round: &Round, rows: &mut [u32], results: &mut [u16], benches: &mut [
     if benches.len() < seats {
         return Err(Refusal::NoRoom(Lent::Benches));
     }
-    points::find_rows(round, rows)?;
+    if let Err(refusal) = points::find_rows(round, rows) {
+        return Err(refusal);
+    }
     results[0..applicants].fill(0);
     benches[0..seats].fill(u32::MAX);
     let asks = ask_all(round, rows, results, benches);
