@@ -1,7 +1,7 @@
 -- What asking to the end leaves: what each applicant is told, the benches, the counts; and what is promised of it.
 -- Definitions and statements only.
 use mathlib.Core.Path.{_≡_}
-use mathlib.Core.Bool.{cond}
+use mathlib.Core.Bool.{Bool, cond}
 use mathlib.Core.List.{List, [], _∷_}
 use Prim.Native.Nat.{ℕ, zero, suc, _+_, _-_, _≤_, _<_}
 use lib.Dec.{ltb}
@@ -24,22 +24,26 @@ use Rattle.bench.specs.Row.{after-all, empty-bench}
 unfoldable pub told : Market → ℕ → ℕ
 told k a = cond (placed-at k (final k) a) (final k a) 255
 
--- those of the k rows from i on, all of workshop w, whose applicants have asked w at the state s
-unfoldable pub askers-from : Tables → (ℕ → ℕ) → ℕ → ℕ → ℕ → List ℕ
-askers-from t s w i zero = []
-askers-from t s w i (suc k) =
-    cond (asked (market t .wish) s w (getD (t .row-applicants) i 0))
-    (i ∷ askers-from t s w (i + 1) k)
-    (askers-from t s w (i + 1) k)
+-- those of the k rows from i on whose applicants are of X
+unfoldable pub rows-of-set : Tables → (ℕ → Bool) → ℕ → ℕ → List ℕ
+rows-of-set t X i zero = []
+rows-of-set t X i (suc k) =
+    cond (X (getD (t .row-applicants) i 0))
+    (i ∷ rows-of-set t X (i + 1) k)
+    (rows-of-set t X (i + 1) k)
 
--- the rows of all who have asked w and have points there
-unfoldable pub askers : Tables → (ℕ → ℕ) → ℕ → List ℕ
-askers t s w = askers-from t s w (getD (t .row-starts) w 0) (getD (t .row-starts) (w + 1) 0 - getD (t .row-starts) w 0)
+-- the rows that those of X have at workshop w
+unfoldable pub rows-at : Tables → (ℕ → Bool) → ℕ → List ℕ
+rows-at t X w = rows-of-set t X (getD (t .row-starts) w 0) (getD (t .row-starts) (w + 1) 0 - getD (t .row-starts) w 0)
 
--- the bench of w once they have all asked; all benches, one after the other
+-- the bench of w once all of X have asked, and once all who have come to it or past it at the state s have
+unfoldable pub bench-of : Tables → (ℕ → Bool) → ℕ → List ℕ
+bench-of t X w = after-all (row-worth t) (rows-at t X w) (empty-bench (places-at t w))
+
 unfoldable pub bench-at : Tables → (ℕ → ℕ) → ℕ → List ℕ
-bench-at t s w = after-all (row-worth t) (askers t s w) (empty-bench (places-at t w))
+bench-at t s w = bench-of t (asked (market t .wish) s w) w
 
+-- all benches, one after the other
 unfoldable pub benches-at : Tables → (ℕ → ℕ) → List ℕ
 benches-at t s = flat (bench-at t s) (workshops t)
 
