@@ -1,10 +1,12 @@
 pub mod Answered
 pub mod Checked
+pub mod Encodes
 pub mod Faults
 pub mod Fills
 pub mod Firsts
 pub mod Fronts
 pub mod Lists
 pub mod Puts
+pub mod Rounds
 pub mod Rows
 pub mod Sheets

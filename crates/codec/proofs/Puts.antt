@@ -1,12 +1,12 @@
 -- Laws of what lies over a lent slice: nothing, one number or one part more, and how long it is.
 use mathlib.Core.Path.{_≡_, refl, sym, ap, ap₂, _∙_}
 use mathlib.Core.List.{List, [], _∷_, _++_}
-use Prim.Native.Nat.{ℕ, suc, _+_, _≤_, _<_}
+use Prim.Native.Nat.{ℕ, _+_, _≤_, _<_}
 use native.Mathlib.Omega.{arith}
 use native.Mathlib.Numerals.{add-one}
 use native.Mathlib.Nat.{add-zero, zero-add}
-use lib.ListN.{length, take, drop, set}
-use Rattle.std.proofs.shelf.Lists.{append-assoc, length-append, length-take-le, length-drop, take-append-drop, take-at, drop-at, drop-drop, set-split}
+use lib.ListN.{length, take, drop, set, getD}
+use Rattle.std.proofs.shelf.Lists.{append-assoc, length-append, length-take-le, length-drop, take-append-drop, take-at, drop-at, drop-drop, length-set, set-split, getD-drop, take-more}
 use Rattle.layout.specs.Slices.{over, table}
 use Rattle.layout.proofs.Flats.{length-table, table-more}
 use Rattle.codec.specs.Puts.{put}
@@ -36,6 +36,16 @@ put-put at n xs ys old l e =
     ∙ (drop-drop (length ys) (at + length xs) old ∙ ap (λ (k : ℕ). drop k old) more)))
     in
     ap₂ (λ (p q : List ℕ). p ++ (ys ++ q)) kept rest ∙ simp append-assoc
+
+-- the step of any loop or run of writers that puts part after part
+pub put-more : (at n : ℕ) (xs ys s t old : List ℕ) → at ≤ length old → n ≡ at + length xs → s ≡ put at xs old → t ≡ put n ys s → t ≡ put at (xs ++ ys) old
+put-more at n xs ys s t old l e h g = rw h at g ∙ put-put at n xs ys old l (sym e)
+
+-- two numbers, one behind the other
+pub set-set-is-put : (i x y : ℕ) (old : List ℕ) → i + 2 ≤ length old → set (set old i x) (i + 1) y ≡ put i (x ∷ (y ∷ [])) old
+set-set-is-put i x y old l =
+    put-more i (i + 1) (x ∷ []) (y ∷ []) (set old i x) (set (set old i x) (i + 1) y) old (omega arith) refl
+    (set-is-put i x old (omega arith)) (set-is-put (i + 1) y (set old i x) (omega (arith, length-set old i x)))
 
 pub put-over : (n : ℕ) (xs ys old : List ℕ) → length xs ≡ n → put n ys (over xs old) ≡ over (xs ++ ys) old
 put-over n xs ys old e =
@@ -85,3 +95,15 @@ put-table-more f at i p y n s old ep en ey e l =
     rw (ep, en, ey, e)
     (set-is-put (at + i) (f i) (put at (table f i) old) (omega (arith, length-put at (table f i) old (omega arith)))
     ∙ (put-put at (at + i) (table f i) (f i ∷ []) old (omega arith) (omega arith) ∙ ap (λ (z : List ℕ). put at z old) (sym (table-more f i))))
+
+-- the step of a loop that copies what stands from `from` on
+pub put-taken-more : (xs : List ℕ) («from» at j : ℕ) (s old : List ℕ) → «from» + j < length xs → s ≡ put at (take j (drop «from» xs)) old → at + j < length old →
+    set s (at + j) (getD xs («from» + j) 0) ≡ put at (take (j + 1) (drop «from» xs)) old
+put-taken-more xs «from» at j s old k e l =
+    let ys = drop «from» xs in
+    let short : j < length ys = omega (arith, length-drop «from» xs) in
+    let len = length-take-le j ys (omega arith) in
+    let room : at + j < length s = rw e (omega (arith, length-put at (take j ys) old (omega arith))) in
+    put-more at (at + j) (take j ys) (getD xs («from» + j) 0 ∷ []) s (set s (at + j) (getD xs («from» + j) 0)) old (omega arith) (omega arith) e
+    (set-is-put (at + j) (getD xs («from» + j) 0) s room)
+    ∙ ap (λ (z : List ℕ). put at z old) (sym (rw (getD-drop «from» xs j 0) at (take-more ys j 0 short)))

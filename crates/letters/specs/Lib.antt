@@ -1,0 +1,5 @@
+pub mod Letter
+pub mod Faults
+pub mod Exact
+pub mod Written
+pub mod Settled
