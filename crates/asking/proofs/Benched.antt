@@ -9,7 +9,6 @@ use native.Mathlib.Omega.{arith}
 use lib.Dec.{eqb, ltb}
 use lib.ListN.{length, getD, replicate}
 use Rattle.std.proofs.shelf.Ways.{tells}
-use Rattle.std.proofs.shelf.Lists.{length-replicate}
 use Rattle.std.proofs.shelf.Tests.{cases-lt, cases-eq, cases-bool, false≢true, eq-eqb, ne-eqb}
 use Rattle.layout.specs.Tables.{Tables, Proper, applicants, workshops, places-at, has}
 use Rattle.round.specs.Places.{point}
@@ -18,25 +17,22 @@ use Rattle.round.specs.ByPoints.{market-of, keeps-best, ahead-of}
 use Rattle.round.proofs.Best.{kept-facts, kept-from}
 use Rattle.round.proofs.Count.{count-same, count-none, count-but-one}
 use Rattle.points.specs.Standing.{no-row, row-of, row-worth, worth, round-of, market}
-use Rattle.bench.specs.Row.{after, out, after-all, empty-bench, taken-in, left-out}
+use Rattle.bench.specs.Row.{after-all, empty-bench, taken-in, left-out}
 use Rattle.bench.specs.Best.{number, above, Best-of}
 use Rattle.bench.proofs.Numbers.{has-here, has-there, has-cases, has-number, number-has}
-use Rattle.bench.proofs.Laws.{length-after, number-after, after-worthless, taken-in-after, left-out-out}
-use Rattle.bench.proofs.Holding.{best-of-after, best-of-after-all, best-of-unique}
+use Rattle.bench.proofs.Laws.{after-worthless, taken-in-after}
+use Rattle.bench.proofs.Holding.{best-of-after-all}
+use Rattle.bench.proofs.Orders.{length-benches, taken-in-all}
+use Rattle.bench.proofs.Told.{number-taken-in}
 use Rattle.asking.specs.Ended.{rows-at, bench-of}
 use Rattle.asking.proofs.Tabled.{length-lists, point-of-round, places-of-round}
 use Rattle.asking.proofs.Standings.{Of, row-once, row-found, row-lacking, row-worth-none, row-worth-some, row-worth-one, row-small, row-is-some, row-of-applicant, rows-rise}
 use Rattle.asking.proofs.Gathered.{has-rows-at, rows-at-has, rows-at-apart, rows-at-more, rows-at-still, number-rows-at}
 
-pub length-after-all : (v : ℕ → ℕ) (xs b : List ℕ) → length (after-all v xs b) ≡ length b
-unfolding after-all
-length-after-all v [] b = refl
-length-after-all v (x ∷ xs) b = length-after-all v xs (after v x b) ∙ length-after v x b
-
 module _ (t : Tables) (ok : Proper t) (w : ℕ) (l : w < workshops t) where
   pub length-bench-of : (X : ℕ → Bool) → length (bench-of t X w) ≡ places-at t w
-  unfolding bench-of empty-bench
-  length-bench-of X = length-after-all (row-worth t) (rows-at t X w) _ ∙ length-replicate (places-at t w) no-row
+  unfolding bench-of
+  length-bench-of X = length-benches (row-worth t) (row-worth-none t ok) (places-at t w) (rows-at t X w)
 
   pub best-of-bench : (X : ℕ → Bool) → Best-of (row-worth t) (rows-at t X w) (bench-of t X w)
   unfolding bench-of
@@ -110,21 +106,22 @@ module _ (t : Tables) (ok : Proper t) (w : ℕ) (l : w < workshops t) where
           | inr m ↦ has-rows-at t ok w l X x m .0
         ]
 
-    bench-after : bench-of t Y w ≡ after (row-worth t) (row-of t w b) (bench-of t X w)
-    bench-after =
-        elim (cases-eq (row-of t w b) no-row) [
-          | inl e ↦ bench-still e ∙ sym (after-worthless (row-worth t) (row-of t w b) (bench-of t X w) (ap (row-worth t) e ∙ row-worth-none t ok))
-          | inr row ↦
-              best-of-unique (row-worth t) (row-worth-none t ok) (rows-at t Y w) (row-of t w b ∷ rows-at t X w) _ _
-              (rows-at-apart t ok w l Y) (rows-at-more t ok w l X Y b new now same row)
-              (length-bench-of Y ∙ sym (length-after (row-worth t) (row-of t w b) (bench-of t X w) ∙ length-bench-of X))
-              (best-of-bench Y)
-              (best-of-after (row-worth t) (row-worth-none t ok) (row-of t w b) (rows-at t X w) (bench-of t X w)
-              (λ x y hx hy _. row-worth-one t ok w l x y (of-more row x hx) (of-more row y hy)) (best-of-bench X))
-        ]
+    bench-more : row-of t w b ≢ no-row → taken-in (row-worth t) (row-of t w b) (bench-of t X w) ≡ bench-of t Y w
+    unfolding bench-of
+    bench-more row =
+        taken-in-all (row-worth t) (row-worth-none t ok) (places-at t w) (row-of t w b) (rows-at t X w) (rows-at t Y w)
+        (λ x y hx hy _. row-worth-one t ok w l x y (of-more row x hx) (of-more row y hy))
+        (λ p. sym (rows-at-more t ok w l X Y b new now same row p))
 
     pub bench-taken-in : taken-in (row-worth t) (row-of t w b) (bench-of t X w) ≡ bench-of t Y w
-    bench-taken-in = taken-in-after (row-worth t) (row-of t w b) (bench-of t X w) (best-of-bench X .sorted) ∙ sym bench-after
+    bench-taken-in =
+        elim (cases-eq (row-of t w b) no-row) [
+          | inl e ↦
+              taken-in-after (row-worth t) (row-of t w b) (bench-of t X w) (best-of-bench X .sorted)
+              ∙ after-worthless (row-worth t) (row-of t w b) (bench-of t X w) (ap (row-worth t) e ∙ row-worth-none t ok)
+              ∙ sym (bench-still e)
+          | inr row ↦ bench-more row
+        ]
 
     -- without a row b is not kept
     pub rowless-not-kept : row-of t w b ≡ no-row → market t .keeps w Y b ≡ false
@@ -143,9 +140,7 @@ module _ (t : Tables) (ok : Proper t) (w : ℕ) (l : w < workshops t) where
     -- y is out then
     module _ (y : ℕ) (is-out : y ≡ left-out (row-worth t) (row-of t w b) (bench-of t X w)) where
       number-bench : (r : ℕ) → number (eqb r) (bench-of t Y w) + cond (eqb r y) 1 0 ≡ number (eqb r) (bench-of t X w) + cond (eqb r (row-of t w b)) 1 0
-      number-bench r =
-          rw (bench-after, is-out ∙ left-out-out (row-worth t) (row-of t w b) (bench-of t X w) (best-of-bench X .sorted))
-          (number-after (row-worth t) (eqb r) (row-of t w b) (bench-of t X w))
+      number-bench r = rw (← bench-taken-in, is-out) (number-taken-in (row-worth t) (row-of t w b) (rows-at t X w) (bench-of t X w) (best-of-bench X) (eqb r))
 
       -- all others are kept who were, and b
       pub others-kept : (c : ℕ) → c < applicants t → row-of t w c ≢ y → (market t .keeps w X c ≡ true) ⊎ ((c ≡ b) × (row-of t w b ≢ no-row)) → market t .keeps w Y c ≡ true

@@ -16,8 +16,7 @@ use Rattle.round.proofs.Promised.{best-stable, truthful}
 use Rattle.round.proofs.Theorems.{few-asks}
 use Rattle.points.specs.Standing.{round-of, market}
 use Rattle.asking.specs.Ended.{Fair}
-use Rattle.asking.proofs.Tabled.{length-lists, list-of-round}
-use Rattle.asking.proofs.Proper.{round-proper}
+use Rattle.points.proofs.Theory.{round-applicants, round-list, round-proper}
 use Rattle.asking.proofs.Sums.{entries-of-market}
 
 module _ (t : Tables) (ok : Proper t) where
@@ -30,7 +29,7 @@ module _ (t : Tables) (ok : Proper t) where
   unfolding with-list
   same-list b l =
       ap {B = places.Round} (λ (ls : List (List ℕ)). record { lists = ls; places = round-of t .places; points = round-of t .points })
-      (ap (set (round-of t .lists) b) (sym (list-of-round t b l)) ∙ set-getD (round-of t .lists) b [])
+      (ap (set (round-of t .lists) b) (sym (round-list t ok b l)) ∙ set-getD (round-of t .lists) b [])
 
   pub fair : Fair t
   unfolding Best-stable Truthful
@@ -39,12 +38,12 @@ module _ (t : Tables) (ok : Proper t) where
         stable = subst (λ (m : ℕ → ℕ). Stable (round-of t) m) (fun-ext got-is) (best-stable (round-of t) (round-proper t ok) .0);
         dearest =
             λ m st a l.
-            let n = length-lists t in
+            let n = round-applicants t ok in
             let best = best-stable (round-of t) (round-proper t ok) .1 m st a (omega arith) in
-            rw (list-of-round t a l, got-is a) at best;
+            rw (round-list t ok a l, got-is a) at best;
         truthful =
             λ b l h ok′.
-            let n = length-lists t in
+            let n = round-applicants t ok in
             let mine = subst (λ (r : places.Round). promise.Proper r) (sym (same-list b h)) (round-proper t ok) in
             let less = truthful (round-of t) b (list-at t b) l (omega arith) mine ok′ in
             let less′ : rank (list-at t b) (places.result (round-of t) b) ≤ rank (list-at t b) (places.result (with-list (round-of t) b l) b) =

@@ -7,24 +7,17 @@ use lib.ListN.{length, getD, take}
 use Rattle.std.proofs.shelf.Lists.{getD-take, length-take}
 use Rattle.layout.specs.Slices.{table, flat}
 use Rattle.layout.specs.Tables.{Tables, Proper, applicants, workshops, list-length, list-at}
-use Rattle.layout.proofs.Flats.{length-table, getD-table, length-flat, getD-flat}
+use Rattle.layout.proofs.Flats.{length-table, getD-table, getD-flat}
 use Rattle.layout.proofs.Offsets.{rises}
 use Rattle.points.specs.Standing.{row-of, rows-of-list, rows-found}
-use Rattle.asking.proofs.Tabled.{starts-within, getD-list}
+use Rattle.points.proofs.Cursors.{starts-le, length-found}
+use Rattle.points.proofs.Theory.{getD-list-at}
 
 module _ (t : Tables) (ok : Proper t) where
-  length-rows-below : (a : ℕ) → a ≤ applicants t → length (flat (rows-of-list t) a) ≡ getD (t .starts) a 0
-  length-rows-below a h =
-      length-flat (rows-of-list t) (λ k. getD (t .starts) k 0) a (ok .started .1)
-      (λ k l.
-      let up = ok .started .2 k (omega arith) in
-      let long = length-table (λ j. row-of t (getD (list-at t k) j 0) k) (list-length t k) in
-      omega arith)
-
   -- as many rows as entries
   pub length-rows-found : length (rows-found t) ≡ length (t .entries)
   unfolding rows-found
-  length-rows-found = length-rows-below (applicants t) (omega arith) ∙ ok .started .4
+  length-rows-found = length-found t ok (applicants t) (omega arith) ∙ ok .started .4
 
   -- a slice that begins with them is as long
   pub rows-long : (rows : List ℕ) → take (length (t .entries)) rows ≡ rows-found t → length (t .entries) ≤ length rows
@@ -35,7 +28,7 @@ module _ (t : Tables) (ok : Proper t) where
 
   module _ (a : ℕ) (l : a < applicants t) (j : ℕ) (h : j < list-length t a) where
     pub entry-within : getD (t .starts) a 0 + j < length (t .entries)
-    entry-within = let s = starts-within t ok a l in omega arith
+    entry-within = let s = starts-le t ok a l in omega arith
 
     pub entry-named : getD (t .entries) (getD (t .starts) a 0 + j) 0 < workshops t
     entry-named = ok .named _ entry-within
@@ -43,12 +36,12 @@ module _ (t : Tables) (ok : Proper t) where
     pub getD-rows-found : getD (rows-found t) (getD (t .starts) a 0 + j) 0 ≡ row-of t (getD (t .entries) (getD (t .starts) a 0 + j) 0) a
     unfolding rows-found
     getD-rows-found =
-        let at = length-rows-below a (omega arith) in
+        let at = length-found t ok a (omega arith) in
         let long = length-table (λ i. row-of t (getD (list-at t a) i 0) a) (list-length t a) in
         ap (λ (i : ℕ). getD (flat (rows-of-list t) (applicants t)) (i + j) 0) (sym at)
         ∙ getD-flat (rows-of-list t) (applicants t) a j 0 l (omega arith)
         ∙ getD-table (λ i. row-of t (getD (list-at t a) i 0) a) (list-length t a) j 0 h
-        ∙ ap (λ (w : ℕ). row-of t w a) (getD-list t ok a l j 0 h)
+        ∙ ap (λ (w : ℕ). row-of t w a) (getD-list-at t ok a j 0 l h)
 
     -- in a slice that begins with the rows found
     pub row-in-slice : (rows : List ℕ) → take (length (t .entries)) rows ≡ rows-found t → getD rows (getD (t .starts) a 0 + j) 0 ≡ row-of t (getD (t .entries) (getD (t .starts) a 0 + j) 0) a

@@ -19,6 +19,7 @@ use Rattle.points.specs.Standing.{no-row, row-of, row-worth, market}
 use Rattle.bench.specs.Row.{taken-in, left-out, last-seat, answer-of}
 use Rattle.bench.specs.declared.Answer.{Answer}
 use Rattle.bench.specs.declared.Answer.the-variants.{Kept, Displaced, TurnedDown}
+use Rattle.bench.proofs.Told.{answer-kept, answer-displaced, answer-turned-down}
 use Rattle.asking.specs.Ended.{bench-of}
 use Rattle.asking.specs.Asking.{gone, Going, counts, at-rest, but-for, one-more, Asking, After, turn-of}
 use Rattle.asking.specs.declared.Turn.the-variants.{Settled, Asks}
@@ -28,16 +29,6 @@ use Rattle.asking.proofs.Tabled.{market-n, market-m, market-len, market-entry}
 use Rattle.asking.proofs.Standings.{row-found, row-small, row-worth-none}
 use Rattle.asking.proofs.Proper.{lawful}
 use Rattle.asking.proofs.Benched.{length-bench-of, kept-seated, bench-taken-in, rowless-not-kept, others-kept, out-not-kept}
-
--- what an answer says of who is out
-kept-told : (x y : ℕ) → Kept ≡ answer-of x y → (y ≢ x) × (y ≡ no-row)
-kept-told x y e = (λ i. grind (arith, tells), grind (arith, tells))
-
-displaced-told : (x y z : ℕ) → Displaced z ≡ answer-of x y → (y ≢ x) × (y ≢ no-row) × (z ≡ y)
-displaced-told x y z e = (λ i. grind (arith, tells), λ i. grind (arith, tells), grind (arith, tells))
-
-turned-down-told : (x y : ℕ) → TurnedDown ≡ answer-of x y → y ≡ x
-turned-down-told x y e = grind (arith, tells)
 
 left-out-worthless : (v : ℕ → ℕ) (x : ℕ) (bench : List ℕ) → v x ≡ 0 → left-out v x bench ≡ x
 unfolding left-out
@@ -222,11 +213,11 @@ module _ (t : Tables) (ok : Proper t) (results benches part : List ℕ) (b w x y
   -- a row that is out is a row
   pub step-row : (z : ℕ) → Displaced z ≡ answer-of x y → z < rows t
   step-row z e =
-      let told = displaced-told x y z e in
+      let told = answer-displaced x y z (sym e) in
       let f = out-not-kept t ok w lw _ _ b small new now same-gone y y-is (told .1) in
-      rw (told .2) (row-small t ok w lw y (f .0))
+      rw (← told .2) (row-small t ok w lw y (f .0))
 
   pub step-answer : (r : Answer) → r ≡ answer-of x y → After t (turn-of t b r) (one-more results b) (putMid (getD (t .seats) w 0) (places-at t w) benches part)
-  step-answer Kept e = let told = kept-told x y e in step-kept (told .0) (told .1)
-  step-answer (Displaced z) e = let told = displaced-told x y z e in rw (told .2) (step-displaced (told .0) (told .1))
-  step-answer TurnedDown e = step-turned-down (turned-down-told x y e)
+  step-answer Kept e = let told = answer-kept x y (sym e) in step-kept (told .0) (told .1)
+  step-answer (Displaced z) e = let told = answer-displaced x y z (sym e) in rw (← told .2) (step-displaced (told .0) (told .1))
+  step-answer TurnedDown e = step-turned-down (answer-turned-down x y (sym e))
