@@ -1,20 +1,18 @@
 -- The beginning of a run: nobody has asked, and all seats are empty.
-use mathlib.Core.Path.{_≡_, refl, sym, ap, ap₂, _∙_}
-use mathlib.Core.Bool.{Bool, true, false}
-use mathlib.Core.Logic.{_⊎_, inl, inr}
-use mathlib.Core.List.{List, [], _++_}
+use mathlib.Core.Path.{_≡_, sym, ap, ap₂, _∙_}
+use mathlib.Core.Logic.{inl, inr}
+use mathlib.Core.List.{List, _++_}
 use Prim.Native.Nat.{ℕ, _+_, _-_, _≤_, _<_}
 use native.Mathlib.Omega.{arith}
 use lib.ListN.{length, getD, take, drop, replicate}
 use Rattle.std.specs.Holes.{between}
 use Rattle.std.proofs.shelf.Tests.{cases-lt}
-use Rattle.std.proofs.shelf.Lists.{length-append, length-replicate, length-drop, length-take, getD-append-left, getD-replicate, getD-past, take-append-le, take-replicate, drop-append-le, drop-replicate, drop-at}
+use Rattle.std.proofs.shelf.Lists.{length-append, length-replicate, length-drop, length-take, getD-append-left, getD-replicate, take-append-le, take-replicate, drop-append-le, drop-replicate, drop-at}
 use Rattle.layout.specs.Slices.{over}
 use Rattle.layout.specs.Tables.{Tables, Proper, applicants, workshops, places-at}
-use Rattle.round.specs.Market.{Market}
 use Rattle.points.specs.Standing.{no-row, row-worth, market}
 use Rattle.bench.specs.Row.{after-all, empty-bench}
-use Rattle.asking.specs.Ended.{bench-of, rows-at}
+use Rattle.asking.specs.Ended.{bench-of}
 use Rattle.asking.specs.Asking.{gone, counts, at-rest, Asking, Behind}
 use Rattle.asking.proofs.Progress.{going-begins, not-gone}
 use Rattle.asking.proofs.Parts.{counts-at, counts-past}

@@ -1,32 +1,31 @@
 -- The bench of a workshop once a set of applicants has asked: just those whom the workshop keeps sit there, and what one more ask
 -- does to it.
-use mathlib.Core.Path.{_≡_, refl, sym, ap, subst, fun-ext, _∙_}
+use mathlib.Core.Path.{_≡_, refl, sym, ap, _∙_}
 use mathlib.Core.Bool.{Bool, true, false, cond, _&&_}
 use mathlib.Core.Logic.{_⊎_, inl, inr, _≢_}
-use mathlib.Core.List.{List, [], _∷_}
-use Prim.Native.Nat.{ℕ, zero, suc, _+_, _-_, _≤_, _<_}
+use mathlib.Core.List.{List, _∷_}
+use Prim.Native.Nat.{ℕ, zero, _+_, _≤_, _<_}
 use native.Mathlib.Omega.{arith}
 use lib.Dec.{eqb, ltb}
-use lib.ListN.{length, getD, replicate}
+use lib.ListN.{length, getD}
 use Rattle.std.proofs.shelf.Ways.{tells}
 use Rattle.std.proofs.shelf.Tests.{cases-lt, cases-eq, cases-bool, false≢true, eq-eqb, ne-eqb}
 use Rattle.layout.specs.Tables.{Tables, Proper, applicants, workshops, places-at, has}
 use Rattle.round.specs.Places.{point}
-use Rattle.round.specs.Market.{count}
-use Rattle.round.specs.ByPoints.{market-of, keeps-best, ahead-of}
+use Rattle.round.specs.ByPoints.{market-of, ahead-of}
 use Rattle.round.proofs.Best.{kept-facts, kept-from}
 use Rattle.round.proofs.Count.{count-same, count-none, count-but-one}
 use Rattle.points.specs.Standing.{no-row, row-of, row-worth, worth, round-of, market}
 use Rattle.bench.specs.Row.{after-all, empty-bench, taken-in, left-out}
 use Rattle.bench.specs.Best.{number, above, Best-of}
-use Rattle.bench.proofs.Numbers.{has-here, has-there, has-cases, has-number, number-has}
+use Rattle.bench.proofs.Numbers.{has-cases, has-number, number-has}
 use Rattle.bench.proofs.Laws.{after-worthless, taken-in-after}
 use Rattle.bench.proofs.Holding.{best-of-after-all}
 use Rattle.bench.proofs.Orders.{length-benches, taken-in-all}
 use Rattle.bench.proofs.Told.{number-taken-in}
 use Rattle.asking.specs.Ended.{rows-at, bench-of}
 use Rattle.asking.proofs.Tabled.{length-lists, point-of-round, places-of-round}
-use Rattle.asking.proofs.Standings.{Of, row-once, row-found, row-lacking, row-worth-none, row-worth-some, row-worth-one, row-small, row-is-some, row-of-applicant, rows-rise}
+use Rattle.asking.proofs.Standings.{Of, row-found, row-worth-none, row-worth-one, row-small, row-of-applicant}
 use Rattle.asking.proofs.Gathered.{has-rows-at, rows-at-has, rows-at-apart, rows-at-more, rows-at-still, number-rows-at}
 
 module _ (t : Tables) (ok : Proper t) (w : ℕ) (l : w < workshops t) where

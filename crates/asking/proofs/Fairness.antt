@@ -1,16 +1,15 @@
 -- What a run promises, from the theorems on rounds and markets.
-use mathlib.Core.Path.{_≡_, refl, sym, ap, subst, fun-ext, _∙_}
+use mathlib.Core.Path.{_≡_, sym, ap, subst, fun-ext, _∙_}
 use mathlib.Core.List.{List, []}
 use Prim.Native.Nat.{ℕ, _≤_, _<_}
 use native.Mathlib.Omega.{arith}
-use lib.ListN.{length, getD, set}
+use lib.ListN.{set}
 use Rattle.std.proofs.shelf.Lists.{set-getD}
 use Rattle.layout.specs.Tables.{Tables, Proper, applicants, list-at}
 use Rattle.round.specs.Places as places
 use Rattle.round.specs.Promise.{Stable, Truthful, Best-stable, rank, with-list}
 use Rattle.round.specs.Promise as promise
-use Rattle.round.specs.Market.{got, asks, entries}
-use Rattle.round.specs.ByPoints.{market-of}
+use Rattle.round.specs.Market.{got}
 use Rattle.round.proofs.Bridge.{result-got}
 use Rattle.round.proofs.Promised.{best-stable, truthful}
 use Rattle.round.proofs.Theorems.{few-asks}

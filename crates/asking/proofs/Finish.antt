@@ -1,17 +1,15 @@
 -- The end of a run: when all have settled or used up their lists, the slices hold what the definitions say.
-use mathlib.Core.Path.{_≡_, refl, sym, ap, ap₂, fun-ext, _∙_}
-use mathlib.Core.Bool.{Bool, true, false, cond}
-use mathlib.Core.Logic.{_⊎_, inl, inr, _≢_}
+use mathlib.Core.Path.{_≡_, sym, ap, ap₂, fun-ext, _∙_}
+use mathlib.Core.Bool.{Bool}
 use mathlib.Core.List.{List, _++_}
-use Prim.Native.Nat.{ℕ, _+_, _-_, _≤_, _<_, min}
+use Prim.Native.Nat.{ℕ, _+_, _-_, _<_, min}
 use native.Mathlib.Omega.{arith}
-use lib.Dec.{ltb}
-use lib.ListN.{length, getD, take, drop}
+use lib.ListN.{length, getD, drop}
 use Rattle.std.proofs.shelf.Lists.{take-append-drop, drop-drop}
 use Rattle.layout.specs.Slices.{table, flat, over}
-use Rattle.layout.specs.Tables.{Tables, Proper, applicants, workshops, places-at, list-length}
-use Rattle.layout.proofs.Flats.{length-table, table-same, flat-same, length-flat, drop-is-flat}
-use Rattle.round.specs.Market.{Market, asked, final, asks, asks-at, placed, placed-at, count}
+use Rattle.layout.specs.Tables.{Tables, Proper, applicants, workshops, places-at}
+use Rattle.layout.proofs.Flats.{length-table, table-same, length-flat, drop-is-flat}
+use Rattle.round.specs.Market.{asked, final, asks, asks-at, placed, placed-at, count}
 use Rattle.round.specs.Market as def
 use Rattle.round.proofs.Count.{count-same, sum-same}
 use Rattle.round.proofs.Ends.{listed-below}

@@ -1,11 +1,11 @@
 -- Where things stand in the slices: an applicant's entries, the rows that were found for them, and the seats of the workshops.
-use mathlib.Core.Path.{_≡_, refl, sym, ap, _∙_}
+use mathlib.Core.Path.{_≡_, sym, ap, _∙_}
 use mathlib.Core.List.{List}
-use Prim.Native.Nat.{ℕ, _+_, _-_, _≤_, _<_}
+use Prim.Native.Nat.{ℕ, _+_, _≤_, _<_}
 use native.Mathlib.Omega.{arith}
 use lib.ListN.{length, getD, take}
 use Rattle.std.proofs.shelf.Lists.{getD-take, length-take}
-use Rattle.layout.specs.Slices.{table, flat}
+use Rattle.layout.specs.Slices.{flat}
 use Rattle.layout.specs.Tables.{Tables, Proper, applicants, workshops, list-length, list-at}
 use Rattle.layout.proofs.Flats.{length-table, getD-table, getD-flat}
 use Rattle.layout.proofs.Offsets.{rises}

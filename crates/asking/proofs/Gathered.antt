@@ -1,17 +1,17 @@
 -- The rows that a set of applicants has at a workshop: which they are, one applicant more, and how many pass a test.
 use mathlib.Core.Path.{_≡_, refl, sym, ap, fun-ext, _∙_}
-use mathlib.Core.Bool.{Bool, true, false, cond, _&&_}
-use mathlib.Core.Logic.{_⊎_, inl, inr, _≢_}
-use mathlib.Core.List.{List, [], _∷_}
-use Prim.Native.Nat.{ℕ, zero, suc, _+_, _-_, _≤_, _<_}
+use mathlib.Core.Bool.{Bool, true, false, _&&_}
+use mathlib.Core.Logic.{inl, inr, _≢_}
+use mathlib.Core.List.{[], _∷_}
+use Prim.Native.Nat.{ℕ, zero, suc, _+_, _≤_, _<_}
 use native.Mathlib.Omega.{arith}
-use lib.Dec.{eqb, ltb}
-use lib.ListN.{length, getD}
+use lib.Dec.{ltb}
+use lib.ListN.{getD}
 use Rattle.std.proofs.shelf.Ways.{tells}
-use Rattle.std.proofs.shelf.Tests.{cases-lt, cases-eq, cases-bool, false≢true, cond-true, cond-false}
+use Rattle.std.proofs.shelf.Tests.{cases-eq, cases-bool, false≢true, cond-true, cond-false}
 use Rattle.layout.specs.Tables.{Tables, Proper, applicants, workshops, has}
 use Rattle.round.specs.Market.{count}
-use Rattle.points.specs.Standing.{no-row, row-of, row-worth, worth}
+use Rattle.points.specs.Standing.{no-row, row-of, row-worth}
 use Rattle.bench.specs.Best.{number, Told-apart}
 use Rattle.bench.proofs.Numbers.{has-here, has-there, has-cases, number-none}
 use Rattle.asking.specs.Ended.{rows-of-set, rows-at}

@@ -1,19 +1,18 @@
 -- What the two loops of a run keep true: how it begins, and what an ask or a list that is used up makes of it.
 use mathlib.Core.Path.{_≡_, refl, sym, ap, subst, fun-ext, _∙_}
 use mathlib.Core.Bool.{Bool}
-use mathlib.Core.Logic.{_⊎_, inl, inr, _≢_}
+use mathlib.Core.Logic.{inl, inr}
 use mathlib.Core.List.{List}
-use Prim.Native.Nat.{ℕ, zero, suc, _+_, _-_, _≤_, _<_}
+use Prim.Native.Nat.{ℕ, _+_, _≤_, _<_}
 use native.Mathlib.Omega.{arith}
-use lib.ListN.{length, getD, set, drop}
+use lib.ListN.{length, getD, drop}
 use Rattle.std.proofs.shelf.Tests.{cases-lt, cases-eq}
 use Rattle.std.proofs.shelf.Lists.{getD-set-same, getD-set-other, drop-set-lt, length-set}
 use Rattle.layout.specs.Tables.{Tables, Proper, applicants, workshops, list-length, most-entries}
-use Rattle.round.specs.Market.{Market}
 use Rattle.round.proofs.Ends.{reached-within}
 use Rattle.points.specs.Standing.{market}
 use Rattle.asking.specs.Ended.{bench-of}
-use Rattle.asking.specs.Asking.{counts, at-rest, but-for, one-more, asks-so-far, Asking, After, Behind, Resting, Waiting}
+use Rattle.asking.specs.Asking.{at-rest, but-for, one-more, asks-so-far, Asking, After, Behind, Resting, Waiting}
 use Rattle.asking.specs.declared.Turn.the-variants.{Settled, Asks}
 use Rattle.asking.proofs.Parts.{counts-at, counts-set-other, but-for-same, but-for-other, counts-one-more, rest-one-more}
 use Rattle.asking.proofs.Tabled.{market-len}

@@ -1,14 +1,13 @@
 -- What one ask does to how far asking has come, in any lawful market; and that where all have settled this is the end of asking all
 -- together.
-use mathlib.Core.Path.{_≡_, refl, sym, ap, _∙_, subst, fun-ext}
-use mathlib.Core.Bool.{Bool, true, false, cond, not, _&&_}
-use mathlib.Core.Logic.{_⊎_, inl, inr, _≢_}
-use Prim.Native.Nat.{ℕ, zero, suc, _+_, _≤_, _<_, min}
+use mathlib.Core.Path.{_≡_, sym, ap, _∙_, subst, fun-ext}
+use mathlib.Core.Bool.{Bool, true, false}
+use mathlib.Core.Logic.{inl, inr, _≢_}
+use Prim.Native.Nat.{ℕ, _+_, _≤_, _<_}
 use native.Mathlib.Omega.{arith}
-use lib.Dec.{ltb, leb, eqb}
 use Rattle.std.proofs.shelf.Ways.{tells}
-use Rattle.std.proofs.shelf.Tests.{cases-lt, cases-eq, cases-bool, false≢true}
-use Rattle.round.specs.Market.{Wish, Market, Within, Lawful, Reached, Moves, start, then, Closed, asked, here, turned, final, asks, asks-at, sum}
+use Rattle.std.proofs.shelf.Tests.{cases-lt, cases-eq}
+use Rattle.round.specs.Market.{Wish, Market, Within, Lawful, Reached, start, then, Closed, asked, here, final, asks, asks-at}
 use Rattle.asking.specs.Asking.{gone, Going}
 use Rattle.round.proofs.Askers.{asked-from, here-parts, turned-from, refused-stays}
 use Rattle.round.proofs.Theorems.{same-end}

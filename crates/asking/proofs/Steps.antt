@@ -1,19 +1,16 @@
 -- One ask in the slices of a run: what they hold stays how far asking has come, whatever the workshop answers.
-use mathlib.Core.Path.{_≡_, refl, sym, ap, subst, fun-ext, _∙_}
+use mathlib.Core.Path.{_≡_, sym, ap, subst, fun-ext, _∙_}
 use mathlib.Core.Bool.{Bool, true, false}
-use mathlib.Core.Logic.{_⊎_, inl, inr, _≢_}
+use mathlib.Core.Logic.{inl, inr, _≢_}
 use mathlib.Core.List.{List}
-use Prim.Native.Nat.{ℕ, _+_, _-_, _≤_, _<_}
+use Prim.Native.Nat.{ℕ, _+_, _-_, _<_}
 use native.Mathlib.Omega.{arith}
-use lib.Dec.{eqb}
 use lib.ListN.{length, getD, drop}
 use borrow.Rule.Slice.PartMut.{putMid}
 use Rattle.std.specs.Holes.{between}
-use Rattle.std.proofs.shelf.Ways.{tells}
 use Rattle.std.proofs.shelf.Tests.{cases-lt, cases-eq, false≢true, cond-false, le-ltb}
 use Rattle.std.proofs.shelf.Lists.{length-set}
 use Rattle.layout.specs.Tables.{Tables, Proper, applicants, workshops, rows, places-at, list-length}
-use Rattle.round.specs.Market.{Market, Lawful}
 use Rattle.round.proofs.Ends.{listed-below}
 use Rattle.points.specs.Standing.{no-row, row-of, row-worth, market}
 use Rattle.bench.specs.Row.{taken-in, left-out, last-seat, answer-of}

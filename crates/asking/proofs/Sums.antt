@@ -1,14 +1,14 @@
 -- The number of asks so far: one more with each ask, never more than there are entries.
-use mathlib.Core.Path.{_≡_, refl, sym, ap, _∙_}
-use mathlib.Core.Logic.{_⊎_, inl, inr, _≢_}
+use mathlib.Core.Path.{_≡_, sym, ap, _∙_}
+use mathlib.Core.Logic.{inl, inr, _≢_}
 use mathlib.Core.List.{List}
-use Prim.Native.Nat.{ℕ, zero, suc, _+_, _-_, _*_, _≤_, _<_, min}
+use Prim.Native.Nat.{ℕ, zero, suc, _+_, _*_, _≤_, _<_, min}
 use native.Mathlib.Omega.{arith}
 use native.Mathlib.Numerals.{add-one}
-use lib.ListN.{length, getD, set}
-use Rattle.std.proofs.shelf.Tests.{cases-lt, cases-eq}
+use lib.ListN.{length, getD}
+use Rattle.std.proofs.shelf.Tests.{cases-eq}
 use Rattle.layout.specs.Tables.{Tables, Proper, applicants, list-length, most-entries, most-applicants}
-use Rattle.round.specs.Market.{Market, sum, entries}
+use Rattle.round.specs.Market.{sum, entries}
 use Rattle.round.proofs.Count.{sum-mono, sum-same, sum-none}
 use Rattle.points.specs.Standing.{market}
 use Rattle.asking.specs.Asking.{counts, one-more, asks-so-far}

@@ -7,7 +7,7 @@ use Prim.Native.Nat.{ℕ, zero, suc, _+_, _-_, _≤_, _<_}
 use lib.Dec.{ltb}
 use lib.ListN.{length, getD}
 use Rattle.std.specs.declared.option.Option.{Option}
-use Rattle.layout.specs.Slices.{table, flat, or-else}
+use Rattle.layout.specs.Slices.{flat, or-else}
 use Rattle.layout.specs.Bytes.{refuse}
 use Rattle.layout.specs.Tables.{Tables, applicants, workshops, places-at, list-at}
 use Rattle.layout.specs.declared.Refusal.{Refusal}
@@ -15,7 +15,7 @@ use Rattle.layout.specs.declared.Refusal.the-variants.{NoRoom}
 use Rattle.layout.specs.declared.Lent.the-variants.{Results, Benches, RoundTables}
 use Rattle.round.specs.Places.{result}
 use Rattle.round.specs.Promise.{Proper, Stable, rank, with-list}
-use Rattle.round.specs.Market.{Market, asked, final, placed-at, got, asks, entries}
+use Rattle.round.specs.Market.{Market, asked, final, placed-at, got, asks}
 use Rattle.round.specs.ByPoints.{market-of}
 use Rattle.points.specs.Standing.{row-worth, round-of, market}
 use Rattle.bench.specs.Row.{after-all, empty-bench}

@@ -28,13 +28,19 @@ fn letter_path(heap: Global, dir: &str, applicant: usize) -> Result<String, Allo
 // All letters, each in a file of its own. Where one cannot be written, says which it is and that those before it are there.
 fn write_letters(rt: &LibcRuntime, settled: &Settled, dir: &str) -> Result<(), Failed> {
     if let Err(e) = fs::create_dir_all(rt, dir) {
-        eprintln!(rt, "run_round: cannot make the folder {dir}: {e}; no letter was written")?;
+        eprintln!(
+            rt,
+            "run_round: cannot make the folder {dir}: {e}; no letter was written"
+        )?;
         return Err(Failed::Told);
     }
     for a in 0..settled.applicants() {
         let path = letter_path(rt.alloc(), dir, a)?;
         if let Err(e) = fs::write(rt, path.as_str(), settled.letter(a)) {
-            eprintln!(rt, "run_round: cannot write {path}: {e}; {a} letters were written before it")?;
+            eprintln!(
+                rt,
+                "run_round: cannot write {path}: {e}; {a} letters were written before it"
+            )?;
             return Err(Failed::Told);
         }
     }

@@ -1,7 +1,7 @@
 -- The indices stand within the tables; what an ask leaves is told by its answer.
 use mathlib.Core.Path.{_≡_, refl}
 use mathlib.Core.List.{List}
-use Prim.Native.Nat.{ℕ, _+_, _-_, _≤_, _<_}
+use Prim.Native.Nat.{ℕ, _+_, _<_}
 use native.Mathlib.Omega.{arith}
 use lib.ListN.{length, getD, take, drop}
 use borrow.Rule.Slice.PartMut.{putMid}
@@ -34,11 +34,13 @@ module _ (t : Tables) (ok : Proper t) (found results benches : List ℕ) (b : �
   -- the bench holds part then, and answers r
   module _ (rows-there : take (length (t .entries)) found ≡ rows-found t) (asking : Asking t (but-for t results b) results benches)
       (part : List ℕ) (is-part : part ≡ taken-in (row-worth t) row bench) (r : Answer) (is-r : r ≡ answer-of row (left-out (row-worth t) row bench)) where
-    after : After t (turn-of t b r) (one-more results b) (putMid (getD (t .seats) asked 0) (places-at t asked) benches part)
-    after = step-answer t ok results benches part b asked row _ small lt asking refl (row-in-slice t ok b small _ lt found rows-there) is-part refl r is-r
-
-    behind : drop (getD (t .seats) (workshops t) 0) (putMid (getD (t .seats) asked 0) (places-at t asked) benches part) ≡ drop (getD (t .seats) (workshops t) 0) benches
-    behind = step-behind t ok results benches part b asked row _ small lt asking refl (row-in-slice t ok b small _ lt found rows-there) is-part refl
+    answered : After t (turn-of t b r) (one-more results b) (putMid (getD (t .seats) asked 0) (places-at t asked) benches part)
+        × (drop (getD (t .seats) (workshops t) 0) (putMid (getD (t .seats) asked 0) (places-at t asked) benches part) ≡ drop (getD (t .seats) (workshops t) 0) benches)
+    answered =
+        let is-row = row-in-slice t ok b small _ lt found rows-there in (
+          step-answer t ok results benches part b asked row _ small lt asking refl is-row is-part refl r is-r,
+          step-behind t ok results benches part b asked row _ small lt asking refl is-row is-part refl,
+        )
 
   displaced-row : (rows-there : take (length (t .entries)) found ≡ rows-found t) (asking : Asking t (but-for t results b) results benches)
       (z : ℕ) → Displaced z ≡ answer-of row (left-out (row-worth t) row bench) → z < rows t
@@ -79,24 +81,24 @@ index-round-row c =
 
 pub returns-in-Kept : need.returns-in-Kept
 returns-in-Kept c =
-    record {
-      results = refl;
-      after = after _ (tables-proper (c .args .round .now)) (c .args .rows .now) (c .args .results .now) (c .args .benches .now) (c .args .asker) (c .pre .applicant) (c .pre .entry) (c .pre .found) (c .pre .asking) (c .ask .last .bench) (c .in-Kept .ensures tt .bench) Kept (c .in-Kept .ensures tt .answer);
-      behind = behind _ (tables-proper (c .args .round .now)) (c .args .rows .now) (c .args .results .now) (c .args .benches .now) (c .args .asker) (c .pre .applicant) (c .pre .entry) (c .pre .found) (c .pre .asking) (c .ask .last .bench) (c .in-Kept .ensures tt .bench) Kept (c .in-Kept .ensures tt .answer);
-    }
+    let told =
+    answered _ (tables-proper (c .args .round .now)) (c .args .rows .now) (c .args .results .now) (c .args .benches .now) (c .args .asker)
+    (c .pre .applicant) (c .pre .entry) (c .pre .found) (c .pre .asking)
+    (c .ask .last .bench) (c .in-Kept .ensures tt .bench) Kept (c .in-Kept .ensures tt .answer) in
+    record { results = refl; after = told .0; behind = told .1 }
 
 pub returns-in-Displaced : need.returns-in-Displaced
 returns-in-Displaced c =
-    record {
-      results = refl;
-      after = after _ (tables-proper (c .args .round .now)) (c .args .rows .now) (c .args .results .now) (c .args .benches .now) (c .args .asker) (c .pre .applicant) (c .pre .entry) (c .pre .found) (c .pre .asking) (c .ask .last .bench) (c .in-Displaced .ensures tt .bench) (Displaced (c .in-Displaced .row)) (c .in-Displaced .ensures tt .answer);
-      behind = behind _ (tables-proper (c .args .round .now)) (c .args .rows .now) (c .args .results .now) (c .args .benches .now) (c .args .asker) (c .pre .applicant) (c .pre .entry) (c .pre .found) (c .pre .asking) (c .ask .last .bench) (c .in-Displaced .ensures tt .bench) (Displaced (c .in-Displaced .row)) (c .in-Displaced .ensures tt .answer);
-    }
+    let told =
+    answered _ (tables-proper (c .args .round .now)) (c .args .rows .now) (c .args .results .now) (c .args .benches .now) (c .args .asker)
+    (c .pre .applicant) (c .pre .entry) (c .pre .found) (c .pre .asking)
+    (c .ask .last .bench) (c .in-Displaced .ensures tt .bench) (Displaced (c .in-Displaced .row)) (c .in-Displaced .ensures tt .answer) in
+    record { results = refl; after = told .0; behind = told .1 }
 
 pub returns-in-TurnedDown : need.returns-in-TurnedDown
 returns-in-TurnedDown c =
-    record {
-      results = refl;
-      after = after _ (tables-proper (c .args .round .now)) (c .args .rows .now) (c .args .results .now) (c .args .benches .now) (c .args .asker) (c .pre .applicant) (c .pre .entry) (c .pre .found) (c .pre .asking) (c .ask .last .bench) (c .in-TurnedDown .ensures tt .bench) TurnedDown (c .in-TurnedDown .ensures tt .answer);
-      behind = behind _ (tables-proper (c .args .round .now)) (c .args .rows .now) (c .args .results .now) (c .args .benches .now) (c .args .asker) (c .pre .applicant) (c .pre .entry) (c .pre .found) (c .pre .asking) (c .ask .last .bench) (c .in-TurnedDown .ensures tt .bench) TurnedDown (c .in-TurnedDown .ensures tt .answer);
-    }
+    let told =
+    answered _ (tables-proper (c .args .round .now)) (c .args .rows .now) (c .args .results .now) (c .args .benches .now) (c .args .asker)
+    (c .pre .applicant) (c .pre .entry) (c .pre .found) (c .pre .asking)
+    (c .ask .last .bench) (c .in-TurnedDown .ensures tt .bench) TurnedDown (c .in-TurnedDown .ensures tt .answer) in
+    record { results = refl; after = told .0; behind = told .1 }

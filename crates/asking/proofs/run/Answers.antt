@@ -1,5 +1,5 @@
 -- Refusals in their order; a run begins with nobody having asked, and ends where all have settled.
-use mathlib.Core.Path.{_≡_, refl, sym, ap, _∙_}
+use mathlib.Core.Path.{_≡_, refl, ap, _∙_}
 use mathlib.Core.Bool.{Bool, true, false}
 use mathlib.Core.List.{List, _++_}
 use Prim.Native.Nat.{ℕ, _-_, _≤_, _<_}
@@ -9,12 +9,11 @@ use Rattle.std.specs.declared.result.Result.{Result}
 use Rattle.std.specs.declared.result.Result.the-variants.{Ok, Err}
 use Rattle.std.proofs.shelf.Tests.{lt-ltb, le-ltb}
 use Rattle.std.proofs.shelf.Lists.{take-at}
-use Rattle.layout.specs.Slices.{over, outcome}
+use Rattle.layout.specs.Slices.{outcome}
 use Rattle.layout.specs.Bytes.{refuse}
 use Rattle.layout.specs.Tables.{Tables, Proper, applicants, workshops}
 use Rattle.layout.specs.declared.Refusal.{Refusal}
-use Rattle.codec.specs.Rounds.{tables-of}
-use Rattle.points.specs.Standing.{no-row, rows-found}
+use Rattle.points.specs.Standing.{no-row}
 use Rattle.points.proofs.Lots.{tables-proper}
 use Rattle.asking.specs.declared.Outcome.{Outcome}
 use Rattle.asking.specs.Asking.{Asking, Resting, at-rest}

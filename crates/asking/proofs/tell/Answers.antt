@@ -1,5 +1,5 @@
 -- Each turn of the loop is a step of Tells.
-use mathlib.Core.Path.{_≡_, refl}
+use mathlib.Core.Path.{refl}
 use native.Mathlib.Omega.{arith}
 use Rattle.round.specs.Market.{count}
 use Rattle.round.proofs.Count.{count-bound}
@@ -26,9 +26,9 @@ pub loop-a-again : need.loop-a-again
 loop-a-again c =
     elim (c .if-at-list-len .came) [
       | then-at-list-len w ↦
-          let step = tell-placed (tables-of (c .args .round .now)) (c .args .results .now) (c .loop-a .results) (c .loop-a .a) (c .loop-a .placed) (c .loop-a .inv .0) (c .loop-a .inv .1) (omega arith) (rw (c .list-len .ensures) at (w .if-at-list-len .taken)) in
+          let step = tell-placed (tables-of (c .args .round .now)) (c .args .results .now) (c .loop-a .results) (c .loop-a .a) (c .loop-a .placed) (c .loop-a .inv .0) (c .loop-a .inv .1) (omega arith) (omega (arith, c .list-len .ensures, w .if-at-list-len .taken)) in
           rw (w .results-is, w .placed-is) step
       | else-at-list-len w ↦
-          let step = tell-none (tables-of (c .args .round .now)) (c .args .results .now) (c .loop-a .results) (c .loop-a .a) (c .loop-a .placed) (c .loop-a .inv .0) (c .loop-a .inv .1) (omega arith) (rw (c .list-len .ensures) at (w .if-at-list-len .left)) in
+          let step = tell-none (tables-of (c .args .round .now)) (c .args .results .now) (c .loop-a .results) (c .loop-a .a) (c .loop-a .placed) (c .loop-a .inv .0) (c .loop-a .inv .1) (omega arith) (omega (arith, c .list-len .ensures, w .if-at-list-len .left)) in
           rw (w .results-is, w .placed-is) step
     ]
