@@ -1,5 +1,4 @@
--- What the two loops of a run keep true. Before applicant a begins, all before it have settled or used up their lists, and nobody from
--- it on has asked; while somebody asks, all up to a have begun but perhaps the asker.
+-- What the two loops of a run keep true: how it begins, and what an ask or a list that is used up makes of it.
 use mathlib.Core.Path.{_≡_, refl, sym, ap, subst, fun-ext, _∙_}
 use mathlib.Core.Bool.{Bool}
 use mathlib.Core.Logic.{_⊎_, inl, inr, _≢_}
@@ -9,37 +8,18 @@ use native.Mathlib.Omega.{arith}
 use lib.ListN.{length, getD, set, drop}
 use Rattle.std.proofs.shelf.Tests.{cases-lt, cases-eq}
 use Rattle.std.proofs.shelf.Lists.{getD-set-same, getD-set-other, drop-set-lt, length-set}
-use Rattle.layout.specs.Tables.{Tables, Proper, applicants, workshops, list-length}
+use Rattle.layout.specs.Tables.{Tables, Proper, applicants, workshops, list-length, most-entries}
 use Rattle.round.specs.Market.{Market}
+use Rattle.round.proofs.Ends.{reached-within}
 use Rattle.points.specs.Standing.{market}
 use Rattle.asking.specs.Ended.{bench-of}
-use Rattle.asking.specs.Asking.{counts, at-rest, but-for, one-more, asks-so-far, Asking, After}
+use Rattle.asking.specs.Asking.{counts, at-rest, but-for, one-more, asks-so-far, Asking, After, Behind, Resting, Waiting}
 use Rattle.asking.specs.declared.Turn.the-variants.{Settled, Asks}
 use Rattle.asking.proofs.Parts.{counts-at, counts-set-other, but-for-same, but-for-other, counts-one-more, rest-one-more}
 use Rattle.asking.proofs.Tabled.{market-len}
 use Rattle.asking.proofs.Proper.{lawful}
 use Rattle.asking.proofs.Progress.{going-used-up, gone-elsewhere}
 use Rattle.asking.proofs.Sums.{asks-none, asks-few, asks-one-more, asks-used-up}
-
--- what lies behind the results and the benches is as it was
-pub record Behind (t : Tables) (results benches old-results old-benches : List ℕ) : Type 0 where
-  pub results-behind : drop (applicants t) results ≡ drop (applicants t) old-results
-  pub benches-behind : drop (getD (t .seats) (workshops t) 0) benches ≡ drop (getD (t .seats) (workshops t) 0) old-benches
-
-pub record Resting (t : Tables) (results benches old-results old-benches : List ℕ) (a asks : ℕ) : Type 0 where
-  pub asking : Asking t (at-rest t results) results benches
-  pub begun : (c : ℕ) → c < a → 0 < getD results c 0
-  pub later : (c : ℕ) → a ≤ c → c < applicants t → getD results c 0 ≡ 0
-  pub counted : asks ≡ asks-so-far t results
-  pub behind : Behind t results benches old-results old-benches
-
-pub record Waiting (t : Tables) (results benches old-results old-benches : List ℕ) (a asker asks : ℕ) : Type 0 where
-  pub small : (asker < a + 1) × (a < applicants t)
-  pub asking : Asking t (but-for t results asker) results benches
-  pub begun : (c : ℕ) → c < a + 1 → c ≢ asker → 0 < getD results c 0
-  pub later : (c : ℕ) → a < c → c < applicants t → getD results c 0 ≡ 0
-  pub counted : asks ≡ asks-so-far t results
-  pub behind : Behind t results benches old-results old-benches
 
 asking-same : (t : Tables) (results benches : List ℕ) (d e : ℕ → ℕ) → ((c : ℕ) → d c ≡ e c) → Asking t d results benches → Asking t e results benches
 asking-same t results benches d e h = subst (λ (f : ℕ → ℕ). Asking t f results benches) (fun-ext h)
@@ -56,7 +36,7 @@ module _ (t : Tables) (ok : Proper t) (results benches : List ℕ) where
       }
 
 module _ (t : Tables) (ok : Proper t) (results benches old-results old-benches : List ℕ) where
-  pub waiting-begins : (a asks : ℕ) → a < applicants t → Resting t results benches old-results old-benches a asks → Waiting t results benches old-results old-benches a a asks
+  pub waiting-begins : (a asks : ℕ) → a < applicants t → Resting t results benches old-results old-benches a asks → Waiting t results benches results benches a a asks
   unfolding at-rest
   waiting-begins a asks l rest =
       record {
@@ -74,12 +54,32 @@ module _ (t : Tables) (ok : Proper t) (results benches old-results old-benches :
         begun = λ c h ne. rest .begun c (omega arith);
         later = λ c h. rest .later c (omega arith);
         counted = rest .counted;
-        behind = rest .behind;
+        behind = record { results-behind = refl; benches-behind = refl };
+      }
+
+  -- what is behind since an earlier time
+  pub resting-since : (first-results first-benches : List ℕ) (a asks : ℕ) → Resting t results benches old-results old-benches a asks → Behind t old-results old-benches first-results first-benches → Resting t results benches first-results first-benches a asks
+  resting-since first-results first-benches a asks rest before =
+      record {
+        asking = rest .asking;
+        begun = rest .begun;
+        later = rest .later;
+        counted = rest .counted;
+        behind = record { results-behind = rest .behind .results-behind ∙ before .results-behind; benches-behind = rest .behind .benches-behind ∙ before .benches-behind };
       }
 
   module _ (a asker asks : ℕ) (wait : Waiting t results benches old-results old-benches a asker asks) where
     pub asker-small : asker < applicants t
     asker-small = let s = wait .small in omega arith
+
+    -- nobody asks more than its list has
+    pub asker-few : getD results asker 0 ≤ most-entries
+    asker-few =
+        let come = but-for-same t results asker ∙ counts-at t results asker asker-small in
+        let within = reached-within (market t) _ (wait .asking .going .reached) asker in
+        let len = market-len t ok asker asker-small in
+        let short = ok .started .3 asker asker-small in
+        omega arith
 
     begun-after : (c : ℕ) → c < a + 1 → 0 < getD (one-more results asker) c 0
     begun-after c l =
@@ -132,24 +132,27 @@ module _ (t : Tables) (ok : Proper t) (results benches old-results old-benches :
       pub asks-left : asks < length (t .entries)
       asks-left = let few = asks-few t ok (one-more results asker) in let one = counted-after in omega arith
 
-      module _ (benches′ : List ℕ) (behind : drop (getD (t .seats) (workshops t) 0) benches′ ≡ drop (getD (t .seats) (workshops t) 0) benches) where
-        pub waiting-settles : After t Settled (one-more results asker) benches′ → Resting t (one-more results asker) benches′ old-results old-benches (a + 1) (asks + 1)
+      module _ (results′ benches′ : List ℕ) (is-results : results′ ≡ one-more results asker) (behind : drop (getD (t .seats) (workshops t) 0) benches′ ≡ drop (getD (t .seats) (workshops t) 0) benches) where
+        pub waiting-settles : After t Settled results′ benches′ → Resting t results′ benches′ old-results old-benches (a + 1) (asks + 1)
         waiting-settles after =
-            record {
-              asking = after;
+            rw is-results
+            (record {
+              asking = rw is-results at after;
               begun = begun-after;
               later = λ c h. later-after c (omega arith);
               counted = counted-after;
               behind = record { results-behind = behind-after; benches-behind = behind ∙ wait .behind .benches-behind };
-            }
+            })
 
-        pub waiting-on : (other : ℕ) → After t (Asks other) (one-more results asker) benches′ → Waiting t (one-more results asker) benches′ old-results old-benches a other (asks + 1)
-        waiting-on other after =
-            record {
+        pub waiting-on : (other : ℕ) → After t (Asks other) results′ benches′ → Waiting t results′ benches′ old-results old-benches a other (asks + 1)
+        waiting-on other after′ =
+            let after : After t (Asks other) (one-more results asker) benches′ = rw is-results at after′ in
+            rw is-results
+            (record {
               small = (elim (cases-lt other (a + 1)) [ inl h ↦ h | inr h ↦ let none = later-after other (omega arith) (after .0) in absurd (omega (arith, after .1)) ], wait .small .1);
               asking = after .2;
               begun = λ c h _. begun-after c h;
               later = later-after;
               counted = counted-after;
               behind = record { results-behind = behind-after; benches-behind = behind ∙ wait .behind .benches-behind };
-            }
+            })

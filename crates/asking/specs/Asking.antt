@@ -1,10 +1,11 @@
 -- How far asking one after the other has come: in any market, and in the slices of a run. Definitions only.
 use mathlib.Core.Path.{_≡_}
 use mathlib.Core.Bool.{Bool, true, false, cond, _&&_}
+use mathlib.Core.Logic.{_≢_}
 use mathlib.Core.List.{List}
 use Prim.Native.Nat.{ℕ, _+_, _-_, _≤_, _<_, min}
 use lib.Dec.{ltb, eqb}
-use lib.ListN.{length, getD, set, take}
+use lib.ListN.{length, getD, set, take, drop}
 use Rattle.std.specs.Holes.{between}
 use Rattle.layout.specs.Tables.{Tables, applicants, workshops}
 use Rattle.round.specs.Market.{Wish, Market, Reached, sum}
@@ -63,3 +64,25 @@ abbrev pub turn-of : Tables → ℕ → Answer → Turn
 turn-of t b Kept = Settled
 turn-of t b (Displaced row) = Asks (getD (t .row-applicants) row 0)
 turn-of t b TurnedDown = Asks b
+
+-- what lies behind the results and the benches is as it was
+pub record Behind (t : Tables) (results benches old-results old-benches : List ℕ) : Type 0 where
+  pub results-behind : drop (applicants t) results ≡ drop (applicants t) old-results
+  pub benches-behind : drop (getD (t .seats) (workshops t) 0) benches ≡ drop (getD (t .seats) (workshops t) 0) old-benches
+
+-- before applicant a begins: all before it have settled or used up their lists, and nobody from it on has asked
+pub record Resting (t : Tables) (results benches old-results old-benches : List ℕ) (a asks : ℕ) : Type 0 where
+  pub asking : Asking t (at-rest t results) results benches
+  pub begun : (c : ℕ) → c < a → 0 < getD results c 0
+  pub later : (c : ℕ) → a ≤ c → c < applicants t → getD results c 0 ≡ 0
+  pub counted : asks ≡ asks-so-far t results
+  pub behind : Behind t results benches old-results old-benches
+
+-- while somebody asks: all up to a have begun but perhaps the asker, and nobody behind a has asked
+pub record Waiting (t : Tables) (results benches old-results old-benches : List ℕ) (a asker asks : ℕ) : Type 0 where
+  pub small : (asker < a + 1) × (a < applicants t)
+  pub asking : Asking t (but-for t results asker) results benches
+  pub begun : (c : ℕ) → c < a + 1 → c ≢ asker → 0 < getD results c 0
+  pub later : (c : ℕ) → a < c → c < applicants t → getD results c 0 ≡ 0
+  pub counted : asks ≡ asks-so-far t results
+  pub behind : Behind t results benches old-results old-benches
