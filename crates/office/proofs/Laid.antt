@@ -20,7 +20,8 @@ use Rattle.asking.specs.Ended.{bench-of, bench-at, benches-at, benches-of}
 use Rattle.cuts.specs.Cuts.{cut-of-bench}
 use Rattle.cuts.specs.declared.Cut.the-variants.{Shut}
 use Rattle.letters.proofs.Writing.{letter-at, letter-at-more, length-letters}
-use Rattle.office.specs.Outcome.{results-of, cut-at, letter-of, letters-of, letter-told}
+use Rattle.cuts.specs.Promised.{cut-at}
+use Rattle.office.specs.Outcome.{results-of, letter-of, letters-of, letter-told}
 
 -- list k, among n lists one after the other; at is where it begins, and to where it ends
 pub flat-part : (f : ℕ → List ℕ) (n k at to : ℕ) → k < n → length (flat f k) ≡ at → at + length (f k) ≡ to →

@@ -6,3 +6,5 @@ pub mod Entries
 pub mod Laid
 pub mod Roomy
 pub mod Refills
+pub mod Promising
+pub mod OtherLists

@@ -24,6 +24,6 @@ pub returns-in-Ok-in-words : need.returns-in-Ok-in-words
 unfolding fault-in-letter judged-bytes
 returns-in-Ok-in-words c = (
   none-from-ok (fault-in-letter (c .args .letter .now)) (verdict-in (c .args .letter .now)) (c .in-Ok .verdict)
-  (sym (c .in-Ok .is) ∙ c .check-letter .ensures .told) .0,
+      (sym (c .in-Ok .is) ∙ c .check-letter .ensures .told) .0,
   c .in-Ok-in-words .ensures tt,
 )
