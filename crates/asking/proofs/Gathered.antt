@@ -45,6 +45,16 @@ module _ (t : Tables) (X : ℕ → Bool) where
         | inr f ↦ let rest = has-rows-of-set r (i + 1) k (rw (cond-false _ _ _ f) at h) in (omega arith, omega arith, rest .2)
       ]
 
+  rows-of-set-none : ((c : ℕ) → X c ≡ false) → (i k : ℕ) → rows-of-set t X i k ≡ []
+  unfolding rows-of-set
+  rows-of-set-none none i zero = refl
+  rows-of-set-none none i (suc k) = cond-false _ _ _ (none (getD (t .row-applicants) i 0)) ∙ rows-of-set-none none (i + 1) k
+
+  -- nobody has no rows
+  pub rows-at-none : (w : ℕ) → ((c : ℕ) → X c ≡ false) → rows-at t X w ≡ []
+  unfolding rows-at
+  rows-at-none w none = rows-of-set-none none _ _
+
 module _ (t : Tables) (X Y : ℕ → Bool) where
   -- sets that agree on the applicants of the rows have the same rows
   rows-of-set-same : (i k : ℕ) → ((r : ℕ) → i ≤ r → r < i + k → Y (getD (t .row-applicants) r 0) ≡ X (getD (t .row-applicants) r 0)) → rows-of-set t Y i k ≡ rows-of-set t X i k

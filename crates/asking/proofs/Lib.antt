@@ -10,3 +10,7 @@ pub mod Steps
 pub mod Found
 pub mod Sums
 pub mod Loops
+pub mod Tells
+pub mod Finish
+pub mod Fairness
+pub mod Begin

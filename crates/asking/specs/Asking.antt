@@ -7,7 +7,7 @@ use Prim.Native.Nat.{ℕ, _+_, _-_, _≤_, _<_, min}
 use lib.Dec.{ltb, eqb}
 use lib.ListN.{length, getD, set, take, drop}
 use Rattle.std.specs.Holes.{between}
-use Rattle.layout.specs.Tables.{Tables, applicants, workshops}
+use Rattle.layout.specs.Tables.{Tables, applicants, workshops, list-length}
 use Rattle.round.specs.Market.{Wish, Market, Reached, sum}
 use Rattle.points.specs.Standing.{market}
 use Rattle.asking.specs.Ended.{bench-of}
@@ -39,6 +39,13 @@ at-rest t results c = counts t results c - 1
 
 unfoldable pub but-for : Tables → List ℕ → ℕ → ℕ → ℕ
 but-for t results b c = cond (eqb c b) (counts t results c) (at-rest t results c)
+
+-- where each ends, once nobody asks any more: the entry come to, 255 where the list is used up; and how many it is not used up for
+abbrev pub ends-at : Tables → List ℕ → ℕ → Bool
+ends-at t results c = ltb (getD results c 0 - 1) (list-length t c)
+
+abbrev pub told-from : Tables → List ℕ → ℕ → ℕ
+told-from t results c = cond (ends-at t results c) (getD results c 0 - 1) 255
 
 -- b asks once more
 abbrev pub one-more : List ℕ → ℕ → List ℕ

@@ -1,17 +1,17 @@
 -- What the answer of a whole read says: from the sizes that the check found, and from what the filling laid over each slice.
-use mathlib.Core.Path.{_≡_, refl, sym, ap, subst, _∙_}
+use mathlib.Core.Path.{_≡_, sym, ap, _∙_}
 use mathlib.Core.Bool.{Bool, true, false, not}
 use mathlib.Core.List.{List}
 use Prim.Native.Nat.{ℕ, _+_, _*_, _≤_}
 use native.Mathlib.Omega.{arith}
 use lib.ListN.{length}
 use Rattle.std.specs.declared.option.Option.{Option}
-use Rattle.std.specs.declared.option.Option.the-variants.{Some, None}
+use Rattle.std.specs.declared.option.Option.the-variants.{None}
 use Rattle.std.specs.declared.result.Result.{Result}
 use Rattle.std.specs.declared.result.Result.the-variants.{Ok, Err}
 use Rattle.std.proofs.shelf.Tests.{and-parts, leb-true}
 use Rattle.layout.specs.Slices.{over, table, outcome, or-else}
-use Rattle.layout.specs.Bytes.{applicants-in, workshops-in, rows-in, rows-from, record-at, row-at, lot-in, start-of, entries-below, seats-before, rows-before, row-applicant-in, row-points-in, tables-in, sizes-in, refuse, fault}
+use Rattle.layout.specs.Bytes.{applicants-in, workshops-in, rows-in, rows-from, record-at, lot-in, start-of, entries-below, seats-before, rows-before, row-applicant-in, row-points-in, tables-in, sizes-in, refuse, fault}
 use Rattle.layout.specs.declared.Refusal.{Refusal}
 use Rattle.layout.specs.declared.Refusal.the-variants.{NoRoom}
 use Rattle.layout.specs.declared.Lent.the-variants.{RoundTables}

@@ -10,7 +10,7 @@ use Rattle.std.specs.declared.result.Result.the-variants.{Ok, Err}
 use Rattle.std.proofs.shelf.Lists.{append-assoc, length-append}
 use Rattle.std.proofs.shelf.Tests.{lt-ltb, le-ltb}
 use Rattle.layout.specs.Slices.{table, flat, over, outcome}
-use Rattle.layout.specs.Tables.{Tables, Proper, applicants, workshops, rows, places-at, list-length, list-at}
+use Rattle.layout.specs.Tables.{Tables, Proper, applicants, workshops, rows, places-at, list-length}
 use Rattle.layout.specs.Bytes.{refuse}
 use Rattle.layout.specs.Encode.{two-bytes, record-bytes, row-bytes, sheet-bytes, encode}
 use Rattle.layout.specs.declared.Refusal.{Refusal}

@@ -1,18 +1,18 @@
 -- What is read lies at the front of the slices: cut to the sizes it is the tables that the bytes say, and so a round.
-use mathlib.Core.Path.{_≡_, sym, ap, subst, _∙_}
+use mathlib.Core.Path.{_≡_, sym, subst}
 use mathlib.Core.List.{List}
-use Prim.Native.Nat.{ℕ, _+_, _≤_}
+use Prim.Native.Nat.{ℕ, _≤_}
 use native.Mathlib.Omega.{arith}
 use lib.ListN.{length, take, drop}
 use Rattle.std.specs.declared.option.Option.the-variants.{None}
 use Rattle.std.proofs.shelf.Lists.{take-at, length-append}
 use Rattle.layout.specs.Slices.{over}
-use Rattle.layout.specs.Tables.{Tables, tables, Proper}
+use Rattle.layout.specs.Tables.{tables, Proper}
 use Rattle.layout.specs.Bytes.{tables-in, sizes-in, fault}
 use Rattle.layout.specs.Encode.{Bytes-only}
 use Rattle.layout.proofs.Told.{length-seats, length-lots, length-starts, length-entries, length-row-starts, length-row-applicants, length-row-points}
 use Rattle.layout.proofs.RoundTrip.{proper-from-no-fault}
-use Rattle.codec.specs.Fronts.{fronts, Roomy, Ready}
+use Rattle.codec.specs.Fronts.{fronts, Ready}
 
 take-over : (n : ℕ) (xs old : List ℕ) → length xs ≡ n → take n (over xs old) ≡ xs
 take-over n xs old e = take-at xs (drop (length xs) old) n e

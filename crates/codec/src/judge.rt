@@ -9,26 +9,14 @@ ghost use Rattle.layout.specs.Bytes.{byte, word, first-of, head-fault, places-f
 ghost use Rattle.codec.specs.Readers.{stands-in, list-fault-at, count-fault-at, row-fault-at};
 use crate::bytes::byte_at;
 use crate::bytes::word_at;
+use crate::limits::MOST_APPLICANTS;
+use crate::limits::MOST_ENTRIES;
+use crate::limits::MOST_PLACES;
+use crate::limits::MOST_ROWS;
+use crate::limits::MOST_WORKSHOPS;
+use crate::limits::PLACES_FROM;
 use layout::Refusal;
 use layout::Sizes;
-
-// The most applicants of a round.
-pub const MOST_APPLICANTS: usize = 4000;
-
-// The most workshops of a round.
-pub const MOST_WORKSHOPS: usize = 256;
-
-// The most places of a workshop.
-pub const MOST_PLACES: u8 = 40;
-
-// The most entries of a list.
-pub const MOST_ENTRIES: u8 = 20;
-
-// The most rows of a round.
-pub const MOST_ROWS: usize = 60000;
-
-// Where the places of the workshops begin.
-pub const PLACES_FROM: usize = 4;
 
 // How many applicants and workshops a round has.
 #[derive(Clone, Copy)]
@@ -138,7 +126,7 @@ fn judge_records(
 {
     let mut seen = [false; 65536];
     let mut at = from;
-    for a in 0..applicants {
+    for _a in 0..applicants {
         let Some(lot) = word_at(bytes, at) else {
             return Err(Refusal::Short(bytes.len()));
         };
@@ -229,7 +217,7 @@ fn judge_rows(
         applicant: 0,
     };
     let mut at = from;
-    for i in 0..rows {
+    for _i in 0..rows {
         least = match judge_row(bytes, at, applicants, workshops, least) {
             Ok(next) => next,
             Err(e) => return Err(e),

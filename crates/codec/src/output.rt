@@ -13,7 +13,7 @@ ghost use Rattle.layout.specs.declared.Lent.the-variants.{RoundTables};
 ghost use Rattle.std.specs.declared.result.Result.the-variants.{Ok};
 ghost use Rattle.codec.specs.Puts.{put};
 ghost use Rattle.codec.specs.Rounds.{tables-of};
-use crate::judge::PLACES_FROM;
+use crate::limits::PLACES_FROM;
 use crate::tables::Round;
 use layout::Lent;
 use layout::Refusal;

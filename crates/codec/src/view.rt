@@ -1,6 +1,5 @@
 // The view of a round over the slices that its tables were read into.
 ghost use mathlib.Core.Path.{_≡_};
-ghost use lib.ListN.{length};
 ghost use Rattle.layout.specs.Tables.{applicants as applicants-of, workshops as workshops-of};
 ghost use Rattle.codec.specs.Fronts.{fronts, Ready};
 ghost use Rattle.codec.specs.Rounds.{tables-of};

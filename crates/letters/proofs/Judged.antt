@@ -19,6 +19,7 @@ use Rattle.layout.specs.declared.Refusal.{Refusal}
 use Rattle.layout.specs.declared.Refusal.the-variants.{Malformed, NotFirst}
 use Rattle.layout.proofs.Flats.{length-table, getD-table}
 use Rattle.layout.proofs.Firsts.{or-else-past, or-else-none}
+use Rattle.cuts.proofs.Firsts.{first-that-same}
 use Rattle.cuts.specs.Cuts.{first-that, position}
 use Rattle.letters.specs.Letter.{Letter, Well-formed, encode-letter, count-in, place-at, part-at, entry-in, letter-in}
 use Rattle.letters.specs.Faults.{letter-fault, place-fault, verdict-in, first-in, reached-in}
@@ -28,13 +29,6 @@ use Rattle.letters.specs.declared.check.Verdict.{Verdict}
 use Rattle.letters.proofs.Reading.{none-from-ok}
 use Rattle.letters.proofs.Formed.{Formed, formed-from-none, none-from-formed}
 use Rattle.letters.proofs.RoundTrip.{blank, encode-letter-in, well-formed-in, formed-encode, letter-in-encode}
-
--- the first of two equal lists of tests
-pub first-that-same : (f g : ℕ → Bool) (n : ℕ) → ((k : ℕ) → k < n → f k ≡ g k) → first-that f n ≡ first-that g n
-unfolding first-that
-first-that-same f g zero h = refl
-first-that-same f g (suc n) h =
-    let before = first-that-same f g n (λ k l. h k (omega arith)) in let here = h n (omega arith) in cc
 
 -- the bytes and the letter that they say have the same first entry that is reached
 first-in-is : (b : List ℕ) → first-in b ≡ first-place (letter-in b)
@@ -67,7 +61,7 @@ judged-letter-in b none =
     (Err (NotFirst (first-place (letter-in b))))) (sym count)
 
 -- so the bytes of a well-formed letter are judged by its place
-judged-encode : (l : Letter) → Well-formed l → judged-bytes (encode-letter l) ≡ judgement l
+pub judged-encode : (l : Letter) → Well-formed l → judged-bytes (encode-letter l) ≡ judgement l
 judged-encode l good =
     judged-letter-in (encode-letter l) (none-from-formed (encode-letter l) (formed-encode l good)) ∙ ap judgement (letter-in-encode l good)
 

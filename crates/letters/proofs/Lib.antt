@@ -5,3 +5,4 @@ pub mod Entries
 pub mod Formed
 pub mod RoundTrip
 pub mod Judged
+pub mod Told

@@ -21,6 +21,7 @@ use Rattle.layout.specs.declared.Refusal.{Refusal}
 use Rattle.letters.specs.Letter.{entry-at, entry-in}
 use Rattle.letters.specs.Faults.{entry-fault, workshop-seen}
 use Rattle.letters.specs.declared.entry.Entry.{Entry}
+use Rattle.cuts.proofs.Firsts.{first-that-below}
 use Rattle.cuts.specs.Cuts.{first-that, position, first-reached}
 
 -- what an outcome says of the fault
@@ -71,17 +72,6 @@ module _ (b : List ℕ) (at : ℕ) where
 
   pub fault-from-err : (k : ℕ) → Err k ≡ outcome (entry-fault rest) (entry-in rest) → entry-fault (drop at b) ≡ Some k
   fault-from-err k h = some-from-err (entry-fault (drop at b)) (entry-in (drop at b)) k (rw take-rest at h)
-
--- the first found lies below n
-pub first-that-below : (f : ℕ → Bool) (n i : ℕ) → first-that f n ≡ Some i → i < n
-unfolding first-that
-first-that-below f zero i e = let z : _≡_ {A = ℕ} 0 1 = cc in absurd (omega arith)
-first-that-below f (suc n) i e = below (first-that f n) (f n) (first-that-below f n i) e
-  where
-    below : (o : Option ℕ) (b : Bool) → (o ≡ Some i → i < n) → or-else o (cond b (Some n) None) ≡ Some i → i < suc n
-    below None true h q = let z : n ≡ i = cc in omega arith
-    below None false h q = let z : _≡_ {A = ℕ} 0 1 = cc in absurd (omega arith)
-    below (Some k) b h q = omega (arith, h q)
 
 -- one position more
 pub first-reached-more : (f : ℕ → Bool) (j : ℕ) → j < 255 → first-reached f (j + 1) ≡ cond (eqb (first-reached f j) 255 && f j) j (first-reached f j)

@@ -42,7 +42,7 @@ bytes-from b at small k h = rw (getD-drop at b k 0) (byte-small b small (at + k)
 byte-of-drop : (b : List ℕ) (at : ℕ) → getD (drop at b) 0 0 ≡ byte b at
 byte-of-drop b at = getD-drop at b 0 0 ∙ ap (byte b) (add-zero at)
 
-abbrev workshop-of : Entry → ℕ
+abbrev pub workshop-of : Entry → ℕ
 workshop-of e = e .workshop
 
 -- any entry
@@ -109,7 +109,7 @@ module _ (b : List ℕ) (small : Bytes-only b) (f : Formed b) where
         place = rw count (f .place);
       }
 
-letter-same : (m : Letter) (applicant lot : ℕ) (entries : List Entry) (place : ℕ) →
+pub letter-same : (m : Letter) (applicant lot : ℕ) (entries : List Entry) (place : ℕ) →
     applicant ≡ m .applicant → lot ≡ m .lot → entries ≡ m .entries → place ≡ m .place →
     _≡_ {A = Letter} (record { applicant = applicant; lot = lot; entries = entries; place = place }) m
 letter-same m applicant lot entries place e f g h = rw (e, f, g, h)

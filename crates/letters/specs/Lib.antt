@@ -2,3 +2,4 @@ pub mod Letter
 pub mod Faults
 pub mod Exact
 pub mod Written
+pub mod Settled

@@ -13,12 +13,10 @@ ghost use Rattle.layout.specs.declared.Lent.the-variants.{RoundTables};
 ghost use Rattle.codec.specs.Rounds.{tables-of};
 ghost use Rattle.points.specs.Standing.{row-of, rows-found, no-row};
 ghost use Rattle.points.specs.Cursors.{to-row, applicant-of, Passed};
+use codec::MOST_WORKSHOPS;
 use codec::Round;
 use layout::Lent;
 use layout::Refusal;
-
-// A cursor for each workshop that a round may have.
-const MOST_WORKSHOPS: usize = 256;
 
 // The first row of workshop `w`, from `from` on, whose applicant is not before `applicant`; the end of its rows if there is none.
 fn next_row(round: &Round, w: usize, from: usize, applicant: usize) -> usize

@@ -1,3 +1,4 @@
+-- One entry more.
 use mathlib.Core.Path.{refl, sym}
 use Prim.Native.Nat.{ℕ, _+_}
 use native.Mathlib.Omega.{arith}

@@ -1,3 +1,4 @@
+-- The loop keeps: the entries so far lie over the slice from `start` on.
 use mathlib.Core.Path.{_≡_}
 use Prim.Native.Nat.{_+_}
 use Rattle.layout.specs.Slices.{table}

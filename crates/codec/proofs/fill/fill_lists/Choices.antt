@@ -1,3 +1,4 @@
+-- The loop keeps: where the next record and its list begin, and that lots, starts and lists so far lie over the slices.
 use mathlib.Core.Path.{_≡_}
 use Prim.Native.Nat.{_*_, _≤_}
 use Rattle.layout.specs.Slices.{over, table}

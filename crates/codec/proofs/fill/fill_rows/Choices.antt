@@ -1,5 +1,5 @@
+-- The loop keeps: where the next row begins, which starts are known, and that starts and rows so far lie over the slices.
 use mathlib.Core.Path.{_≡_}
-use Prim.Native.Nat.{_*_, _≤_}
 use Rattle.layout.specs.Slices.{over, table}
 use Rattle.layout.specs.Bytes.{row-at, rows-before, row-applicant-in, row-points-in}
 use Rattle.codec.proofs.Sheets.{next-open}

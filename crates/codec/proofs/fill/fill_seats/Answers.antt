@@ -1,3 +1,4 @@
+-- One sum more, and the last one after the loop.
 use mathlib.Core.Path.{refl, sym, ap, _∙_}
 use Prim.Native.Nat.{ℕ, _+_}
 use native.Mathlib.Omega.{arith}

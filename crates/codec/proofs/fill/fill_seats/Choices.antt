@@ -1,3 +1,4 @@
+-- The loop keeps: the sums so far lie over the slice.
 use mathlib.Core.Path.{_≡_}
 use Prim.Native.Nat.{_*_, _≤_}
 use Rattle.layout.specs.Slices.{over, table}

@@ -1,3 +1,4 @@
+-- The loop keeps: the same number lies over the slice from `next` up to w.
 use mathlib.Core.Path.{_≡_}
 use Prim.Native.Nat.{_-_}
 use Rattle.layout.specs.Slices.{table}

@@ -1,5 +1,5 @@
 -- A fault of the bytes comes first, then the room; past both, what was filled is what the bytes say.
-use mathlib.Core.Path.{_≡_, refl, _∙_}
+use mathlib.Core.Path.{refl}
 use native.Mathlib.Omega.{arith}
 use Rattle.std.proofs.shelf.Results.{err-from-errBy}
 use Rattle.layout.specs.Encode.{Bytes-only}

@@ -1,11 +1,10 @@
 -- Each entry is judged as entry-fault-at says; the first that is at fault answers for the list.
 use mathlib.Core.Path.{_≡_}
-use Prim.Native.Nat.{_+_, _≤_}
+use Prim.Native.Nat.{_+_}
 use native.Mathlib.Omega.{arith}
 use lib.ListN.{length}
 use Rattle.std.proofs.shelf.Ways.{tells}
-use Rattle.std.specs.declared.option.Option.the-variants.{Some, None}
-use Rattle.layout.specs.Bytes.{byte}
+use Rattle.std.specs.declared.option.Option.the-variants.{Some}
 use Rattle.layout.specs.declared.Refusal.the-variants.{Short, BadEntry}
 use Rattle.codec.specs.Readers.{entry-fault-at}
 use Rattle.layout.proofs.Firsts.{first-of-more}

@@ -1,3 +1,4 @@
+-- The loop keeps: the entries so far are there, and none of them is at fault.
 use mathlib.Core.Path.{_≡_}
 use Prim.Native.Nat.{_+_, _≤_}
 use lib.ListN.{length}

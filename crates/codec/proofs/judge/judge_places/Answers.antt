@@ -2,7 +2,7 @@
 use mathlib.Core.Path.{_≡_}
 use native.Mathlib.Omega.{arith}
 use Rattle.std.proofs.shelf.Ways.{tells}
-use Rattle.std.specs.declared.option.Option.the-variants.{Some, None}
+use Rattle.std.specs.declared.option.Option.the-variants.{Some}
 use Rattle.layout.specs.Bytes.{places-fault}
 use Rattle.layout.specs.declared.Refusal.the-variants.{Short, BadSize}
 use Prim.Native.Nat.{_+_}

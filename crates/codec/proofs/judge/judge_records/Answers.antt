@@ -41,7 +41,7 @@ loop-a-again c =
     let t = lot-seen-is _ _ _ _ _ (g .1) l (c .loop-a .inv .4) ∙ c .if-seen-lot .left in
     let n = none-from-ok _ _ _ (c .in-Ok .ensures tt .answer) in
     let f = record-by-list _ _ _ (c .loop-a .inv .0) _ (c .pre .size) (g .0) t ∙ n .0 in
-    let e : c .in-Some .lot ≡ lot-in (c .args .bytes .now) (c .loop-a .a) = g .1 ∙ ap (λ x. word (c .args .bytes .now) x) (c .loop-a .inv .0) in (
+    let e : c .in-Some .lot ≡ lot-in (c .args .bytes .now) (c .loop-a .-a) = g .1 ∙ ap (λ x. word (c .args .bytes .now) x) (c .loop-a .inv .0) in (
       sym (n .1) ∙ sym (record-after _ _ _ (c .loop-a .inv .0)),
       c .in-Ok .ensures tt .within,
       first-of-more _ _ (c .loop-a .inv .2) f,

@@ -1,5 +1,5 @@
 -- Each row is judged by its place and by where it may stand at the earliest; the first that is at fault answers for all.
-use mathlib.Core.Path.{_≡_, refl, sym, ap, _∙_}
+use mathlib.Core.Path.{sym, ap, _∙_}
 use Prim.Native.Nat.{ℕ, _+_}
 use native.Mathlib.Omega.{arith}
 use Rattle.layout.specs.Bytes.{byte, word}
@@ -27,6 +27,6 @@ loop-i-again c =
       omega arith,
       c .in-Ok .ensures tt .within,
       first-of-more _ _ (v .2) f,
-      sym (ap (λ (x : Mark). x .workshop) (n .1)) ∙ (ap (λ (x : ℕ). byte b x) (v .0) ∙ sym (least-workshop-more b (c .loop-i .i))),
-      sym (ap (λ (x : Mark). x .applicant) (n .1)) ∙ (ap (λ (x : ℕ). word b (x + 1) + 1) (v .0) ∙ sym (least-applicant-more b (c .loop-i .i))),
+      sym (ap (λ (x : Mark). x .workshop) (n .1)) ∙ (ap (λ (x : ℕ). byte b x) (v .0) ∙ sym (least-workshop-more b (c .loop-i .-i))),
+      sym (ap (λ (x : Mark). x .applicant) (n .1)) ∙ (ap (λ (x : ℕ). word b (x + 1) + 1) (v .0) ∙ sym (least-applicant-more b (c .loop-i .-i))),
     )

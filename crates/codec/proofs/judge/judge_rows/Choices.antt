@@ -1,3 +1,4 @@
+-- The loop keeps: where the next row begins, that none so far is at fault, and where the next may stand at the earliest.
 use mathlib.Core.Path.{_≡_}
 use Prim.Native.Nat.{_≤_}
 use lib.ListN.{length}
@@ -8,8 +9,8 @@ use Rattle.codec.proofs.judge.judge_rows.Given as given
 
 abbrev pub Inv-loop-i : given.InvT-loop-i
 Inv-loop-i l =
-    (l .at ≡ row-at (l .bytes) (l .i))
+    (l .at ≡ row-at (l .bytes) (l .-i))
     × (l .at ≤ length (l .bytes))
-    × (first-of (row-fault (l .bytes)) (l .i) ≡ None)
-    × (l .least .workshop ≡ least-workshop (l .bytes) (l .i))
-    × (l .least .applicant ≡ least-applicant (l .bytes) (l .i))
+    × (first-of (row-fault (l .bytes)) (l .-i) ≡ None)
+    × (l .least .workshop ≡ least-workshop (l .bytes) (l .-i))
+    × (l .least .applicant ≡ least-applicant (l .bytes) (l .-i))

@@ -1,3 +1,4 @@
+-- The loop keeps: `found` says whether w is one of the bytes so far.
 use mathlib.Core.Path.{_≡_}
 use Rattle.codec.specs.Readers.{stands-in}
 use Rattle.codec.proofs.judge.stands_in.Given as given

@@ -1,9 +1,6 @@
-use mathlib.Core.Path.{refl, sym, ap, _∙_}
-use mathlib.Core.List.{_∷_, []}
-use Prim.Native.Nat.{_+_, _<_}
+-- One entry more.
+use mathlib.Core.Path.{sym}
 use native.Mathlib.Omega.{arith}
-use lib.ListN.{length, take, drop, getD}
-use Rattle.std.proofs.shelf.Lists.{length-take-le, length-drop}
 use Rattle.codec.proofs.Puts.{put-none, put-taken-more}
 use Rattle.codec.proofs.output.put_list.Needs as need
 

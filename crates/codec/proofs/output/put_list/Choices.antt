@@ -1,5 +1,5 @@
+-- The loop keeps: the entries so far lie over the bytes from `at` on.
 use mathlib.Core.Path.{_≡_}
-use Prim.Native.Nat.{_+_}
 use lib.ListN.{take, drop}
 use Rattle.codec.specs.Puts.{put}
 use Rattle.codec.proofs.output.put_list.Given as given

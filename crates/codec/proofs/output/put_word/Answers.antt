@@ -1,3 +1,4 @@
+-- Two bytes, one behind the other.
 use Rattle.codec.proofs.Puts.{set-set-is-put}
 use Rattle.codec.proofs.output.put_word.Needs as need
 

@@ -1,9 +1,6 @@
 -- The parts are put one behind the other; together they are the bytes of the round.
-use mathlib.Core.Path.{_≡_, refl}
-use Prim.Native.Nat.{_+_, _*_}
+use mathlib.Core.Path.{refl}
 use native.Mathlib.Omega.{arith}
-use lib.ListN.{length}
-use Rattle.layout.specs.Encode.{encode}
 use Rattle.layout.proofs.Encoded.{length-encode}
 use Rattle.layout.proofs.RoundTrip.{reads-back}
 use Rattle.codec.specs.Rounds.{tables-of}

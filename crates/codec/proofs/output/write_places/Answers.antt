@@ -1,8 +1,9 @@
+-- The places of one workshop more.
 use mathlib.Core.Path.{refl, sym}
 use native.Mathlib.Omega.{arith}
 use Rattle.layout.specs.Tables.{places-at}
 use Rattle.codec.specs.Rounds.{tables-of}
-use Rattle.codec.proofs.Puts.{put-none, put-table-more, put-table-end}
+use Rattle.codec.proofs.Puts.{put-none, put-table-more}
 use Rattle.codec.proofs.output.write_places.Needs as need
 
 pub loop-w-holds : need.loop-w-holds

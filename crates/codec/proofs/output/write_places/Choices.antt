@@ -1,3 +1,4 @@
+-- The loop keeps: the places so far lie over the bytes.
 use mathlib.Core.Path.{_≡_}
 use Rattle.layout.specs.Slices.{table}
 use Rattle.layout.specs.Tables.{places-at}

@@ -1,3 +1,4 @@
+-- The list lies within the entries and its numbers are bytes; lot, count and list join to the record.
 use native.Mathlib.Omega.{arith}
 use Rattle.std.proofs.shelf.Lists.{length-set}
 use Rattle.codec.specs.Rounds.{tables-of}

@@ -1,3 +1,4 @@
+-- The loop keeps: the records so far lie over the bytes from `at` on.
 use mathlib.Core.Path.{_≡_}
 use Rattle.layout.specs.Slices.{flat}
 use Rattle.layout.specs.Encode.{record-bytes}

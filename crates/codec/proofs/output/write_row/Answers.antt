@@ -1,3 +1,4 @@
+-- Workshop, applicant and points join to the row.
 use Rattle.codec.proofs.Encodes.{row-put}
 use Rattle.codec.proofs.output.write_row.Needs as need
 

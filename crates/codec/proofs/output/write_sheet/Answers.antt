@@ -1,3 +1,4 @@
+-- One row more, right behind those before it.
 use mathlib.Core.Path.{sym}
 use Prim.Native.Nat.{ℕ, _+_}
 use native.Mathlib.Omega.{arith}

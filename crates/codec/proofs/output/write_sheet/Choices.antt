@@ -1,3 +1,4 @@
+-- The loop keeps: the rows so far of the workshop lie over the bytes from `at` on.
 use mathlib.Core.Path.{_≡_}
 use Prim.Native.Nat.{ℕ, _+_}
 use Rattle.layout.specs.Slices.{flat}

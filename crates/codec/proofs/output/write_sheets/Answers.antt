@@ -1,3 +1,4 @@
+-- One sheet more, right behind those before it.
 use mathlib.Core.Path.{sym}
 use Prim.Native.Nat.{_<_}
 use native.Mathlib.Omega.{arith}

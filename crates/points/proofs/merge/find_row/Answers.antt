@@ -1,5 +1,4 @@
 -- The first row that is not of an earlier applicant is the applicant's own or none is.
-use mathlib.Core.Path.{sym, _∙_}
 use native.Mathlib.Omega.{arith}
 use Rattle.layout.specs.Tables.{Tables, Proper}
 use Rattle.codec.specs.Rounds.{tables-of}
@@ -17,11 +16,12 @@ pub returns : need.returns
 returns c =
     let t : Tables = tables-of (c .args .round .now) in
     let good : Proper t = tables-proper (c .args .round .now) in
+    let found =
+    row-found t good (c .args .applicant) (c .args .passed .now) (c .pre .before) (c .args .w) (c .next-row-row .result) (c .pre .workshop)
+    (c .next-row-row .ensures .within .0) (c .next-row-row .ensures .within .1) (c .next-row-row .ensures .passed) (c .next-row-row .ensures .first)
+    in
     record {
-      row =
-          c .own-row .ensures
-          ∙ sym (row-found t good (c .args .applicant) (c .args .passed .now) (c .pre .before) (c .args .w) (c .next-row-row .result) (c .pre .workshop)
-          (c .next-row-row .ensures .within .0) (c .next-row-row .ensures .within .1) (c .next-row-row .ensures .passed) (c .next-row-row .ensures .first));
+      row = cc;
       before =
           passed-set t good (c .args .applicant) (c .args .passed .now) (c .pre .before) (c .args .w) (c .next-row-row .result) (c .pre .workshop) (c .pre .long)
           (omega (arith, c .next-row-row .ensures .within .0)) (c .next-row-row .ensures .within .1) (c .next-row-row .ensures .passed);
