@@ -9,19 +9,20 @@ use lib.Dec.{eqb}
 use Rattle.std.proofs.shelf.Lists.{take-at, getD-past, length-append}
 use Rattle.std.proofs.shelf.Tests.{lt-ltb}
 use Rattle.layout.specs.Slices.{flat}
-use Rattle.layout.specs.Tables.{Tables, Proper, applicants, workshops, places-at}
-use Rattle.layout.proofs.Flats.{flat-more, length-flat, length-flat-mono, drop-flat}
+use Rattle.layout.specs.Tables.{Tables, Proper, applicants, workshops, places-at, list-length}
+use Rattle.layout.proofs.Flats.{length-table, flat-more, length-flat, length-flat-mono, drop-flat}
 use Rattle.layout.proofs.Offsets.{rises}
 use Rattle.round.specs.Market.{final}
-use Rattle.points.specs.Standing.{row-worth, market, rows-found}
+use Rattle.points.specs.Standing.{row-worth, market}
 use Rattle.bench.specs.Row.{after, after-all, empty-bench}
 use Rattle.bench.proofs.Laws.{length-after}
 use Rattle.asking.specs.Ended.{bench-of, bench-at, benches-at, benches-of}
 use Rattle.cuts.specs.Cuts.{cut-of-bench}
 use Rattle.cuts.specs.declared.Cut.the-variants.{Shut}
-use Rattle.letters.proofs.Writing.{letter-at, letter-at-more, length-letters}
+use Rattle.letters.specs.Settled.{own-entry, own-letter}
+use Rattle.letters.proofs.Writing.{letter-at, length-encode-letter}
 use Rattle.cuts.specs.Promised.{cut-at}
-use Rattle.office.specs.Outcome.{results-of, letter-of, letters-of, letter-told}
+use Rattle.office.specs.Outcome.{letter-of, letters-of, letter-told}
 
 -- list k, among n lists one after the other; at is where it begins, and to where it ends
 pub flat-part : (f : ℕ → List ℕ) (n k at to : ℕ) → k < n → length (flat f k) ≡ at → at + length (f k) ≡ to →
@@ -62,15 +63,21 @@ module _ (t : Tables) where
         let e : length (bench-at t (final (market t)) w) ≡ 0 = omega (arith, length-bench-at (final (market t)) w) in
         rw e
 
-  module _ (proper : Proper t) (a : ℕ) (l : a < applicants t) where
-    pub letter-part :
+  length-letter-of : (a : ℕ) → length (letter-of t a) ≡ 6 + 8 * list-length t a
+  unfolding letter-of
+  length-letter-of a = omega (arith, length-encode-letter (own-letter t a), length-table (own-entry t a) (list-length t a))
+
+  module _ (proper : Proper t) where
+    letter-at-more : (a : ℕ) → a < applicants t → letter-at t (a + 1) ≡ letter-at t a + length (letter-of t a)
+    letter-at-more a l = omega (arith, length-letter-of a, proper .started .2 a l)
+
+    pub letter-part : (a : ℕ) → a < applicants t →
         (take (letter-at t (a + 1) - letter-at t a) (drop (letter-at t a) (letters-of t)) ≡ letter-of t a)
         × (letter-at t (a + 1) ≤ length (letters-of t))
-    unfolding letters-of letter-of
-    letter-part =
-        let more = letter-at-more t (proper .started) (rows-found t) (results-of t) (benches-of t) a l in
-        flat-part (letter-of t) (applicants t) a (letter-at t a) (letter-at t (a + 1)) l
-        (length-letters t (proper .started) (rows-found t) (results-of t) (benches-of t) a (omega arith)) (sym more)
+    unfolding letters-of
+    letter-part a l =
+        let begins = length-flat (letter-of t) (letter-at t) a (omega (arith, proper .started .1)) (λ k h. letter-at-more k (omega arith)) in
+        flat-part (letter-of t) (applicants t) a (letter-at t a) (letter-at t (a + 1)) l begins (sym (letter-at-more a l))
 
 -- The same where u, bs and ls are the round, the benches and the letters in slices, and n is how many workshops or applicants there are.
 module _ (t u : Tables) (proper : Proper t) (same : u ≡ t) where

@@ -4,6 +4,10 @@ use mathlib.Core.List.{List, []}
 use Prim.Native.Nat.{ℕ, _≤_, _<_}
 use native.Mathlib.Omega.{arith}
 use lib.ListN.{length, getD}
+use Rattle.std.specs.declared.result.Result.the-variants.{Ok}
+use Rattle.layout.specs.Bytes.{decode}
+use Rattle.layout.specs.Encode.{Bytes-only}
+use Rattle.layout.proofs.RoundTrip.{all-as-written}
 use Rattle.layout.specs.Tables.{Tables, Proper, applicants, workshops, list-at}
 use Rattle.round.specs.Places.{nowhere, result}
 use Rattle.round.specs.Promise.{Stable, rank, given, Best-stable as Given-best, Same-left as Given-left}
@@ -17,10 +21,13 @@ use Rattle.asking.specs.Ended.{bench-at}
 use Rattle.asking.proofs.Tabled.{length-lists, length-places, list-of-round}
 use Rattle.asking.proofs.Proper.{round-proper, lawful}
 use Rattle.asking.proofs.Sums.{entries-of-market}
+use Rattle.asking.proofs.Fairness.{fair}
 use Rattle.asking.proofs.Benched.{best-of-bench}
 use Rattle.cuts.proofs.Defined.{cuts-defined}
 use Rattle.cuts.proofs.Reaching.{told-by-cuts}
-use Rattle.office.specs.Promises.{Best-kept, Ends, Any-order, Best-stable, Same-left, First-reached, Promised}
+use Rattle.letters.proofs.Told.{accepted-own}
+use Rattle.office.specs.Outcome.{letter-of}
+use Rattle.office.specs.Promises.{Best-kept, Ends, Any-order, Best-stable, Same-left, First-reached, Letters-right, Promised, Of-all-read}
 
 module _ (t : Tables) (proper : Proper t) where
   pub best-kept : Best-kept t
@@ -60,6 +67,10 @@ module _ (t : Tables) (proper : Proper t) where
   pub ends : Ends t
   ends = let k = theorems.end-closed (market t) (lawful t proper) in (k .0, k .1, let few = theorems.few-asks (market t) in let all = entries-of-market t proper in omega arith)
 
+  pub letters-right : Letters-right t
+  unfolding letter-of
+  letters-right a l = accepted-own t proper a l
+
   pub promised-of-proper : Promised t
   promised-of-proper =
       record {
@@ -69,4 +80,13 @@ module _ (t : Tables) (proper : Proper t) where
         best-stable = best-stable;
         same-left = same-left;
         first-reached = (cuts-defined t proper, told-by-cuts t proper);
+        letters-right = letters-right;
+        fair = fair t proper;
       }
+
+-- so it holds of whatever is read from bytes
+pub proper-read : (b : List ℕ) (t : Tables) → Bytes-only b → decode b ≡ Ok t → Proper t
+proper-read b t small read = all-as-written b small .sound t read .0
+
+pub promised-read : Of-all-read Promised
+promised-read b t small read = promised-of-proper t (proper-read b t small read)

@@ -1,21 +1,22 @@
--- What comes out of a round, as functions of its tables: what each applicant is told, the letters. Definitions only.
+-- What comes out of a round, as functions of its tables: what each applicant is told, and the letters. Definitions only.
 use mathlib.Core.Bool.{cond}
 use mathlib.Core.List.{List, []}
 use Prim.Native.Nat.{ℕ}
 use lib.Dec.{ltb}
 use Rattle.layout.specs.Slices.{table, flat}
 use Rattle.layout.specs.Tables.{Tables, applicants}
-use Rattle.points.specs.Standing.{market, rows-found}
-use Rattle.asking.specs.Ended.{told, benches-of}
-use Rattle.letters.specs.Written.{letter-bytes}
+use Rattle.points.specs.Standing.{market}
+use Rattle.asking.specs.Ended.{told}
+use Rattle.letters.specs.Letter.{encode-letter}
+use Rattle.letters.specs.Settled.{own-letter}
 
 -- what each applicant is told: the position in its list of what it got, from 0, or 255 for nothing
 unfoldable pub results-of : Tables → List ℕ
 results-of t = table (told (market t)) (applicants t)
 
--- a's letter, and all letters one after the other
+-- the bytes of a's letter, and of all letters one after the other
 unfoldable pub letter-of : Tables → ℕ → List ℕ
-letter-of t a = letter-bytes t (rows-found t) (results-of t) (benches-of t) a
+letter-of t a = encode-letter (own-letter t a)
 
 unfoldable pub letters-of : Tables → List ℕ
 letters-of t = flat (letter-of t) (applicants t)

@@ -2,20 +2,23 @@
 -- bytes that are taken. Whoever asks on, what is left, what is dearer: by the lists, points and lots of these tables.
 use mathlib.Core.Path.{_≡_}
 use mathlib.Core.Logic.{_≢_}
-use mathlib.Core.List.{List, []}
+use mathlib.Core.List.{List}
 use Prim.Native.Nat.{ℕ, _≤_, _<_}
 use lib.ListN.{length, getD}
 use Rattle.std.specs.declared.result.Result.the-variants.{Ok}
-use Rattle.layout.specs.Tables.{Tables, Proper, applicants, workshops, list-length, list-at}
+use Rattle.layout.specs.Tables.{Tables, applicants, workshops, list-length, list-at}
 use Rattle.layout.specs.Bytes.{decode}
-use Rattle.layout.specs.Encode.{Bytes-only, encode}
+use Rattle.layout.specs.Encode.{Bytes-only}
 use Rattle.round.specs.Promise.{Stable, rank, given}
 use Rattle.round.specs.Market.{Reached, Closed, asked, final, got, asks, asks-at}
 use Rattle.points.specs.Standing.{row-worth, round-of, market}
 use Rattle.bench.specs.Best.{Best-of}
-use Rattle.asking.specs.Ended.{told, rows-at, bench-at}
+use Rattle.asking.specs.Ended.{told, rows-at, bench-at, Fair}
 use Rattle.cuts.specs.Cuts.{first-reached}
 use Rattle.cuts.specs.Promised.{Cut-defined, cut-at, reaches-cut}
+use Rattle.letters.specs.Exact.{judged-bytes, Exact}
+use Rattle.letters.specs.Settled.{Accepted}
+use Rattle.office.specs.Outcome.{letter-of}
 
 -- each bench holds the best of those who asked and have points there, as many as it has places
 abbrev pub Best-kept : Tables → Type 0
@@ -52,7 +55,12 @@ First-reached t =
     ((w : ℕ) → w < workshops t → Cut-defined t w (cut-at t w))
     × ((a : ℕ) → a < applicants t → told (market t) a ≡ first-reached (λ j. reaches-cut t a (getD (list-at t a) j 0)) (list-length t a))
 
--- all that is promised of a round
+-- the checker accepts every letter
+abbrev pub Letters-right : Tables → Type 0
+Letters-right t = (a : ℕ) → a < applicants t → Accepted (letter-of t a)
+
+-- all that is promised of a round. fair says beside what is said above that no other list gets anybody anything dearer, and that what
+-- everybody got is what the definition step by step comes to
 pub record Promised (t : Tables) : Type 0 where
   pub best-kept : Best-kept t
   pub ends : Ends t
@@ -60,10 +68,16 @@ pub record Promised (t : Tables) : Type 0 where
   pub best-stable : Best-stable t
   pub same-left : Same-left t
   pub first-reached : First-reached t
+  pub letters-right : Letters-right t
+  pub fair : Fair t
 
 -- of all bytes that are taken
 abbrev pub Of-all-read : (Tables → Type 0) → Type 0
 Of-all-read P = (b : List ℕ) (t : Tables) → Bytes-only b → decode b ≡ Ok t → P t
+
+-- the checker accepts exactly the letters whose place is the first whose cut is reached
+abbrev pub Checker-exact : Type 0
+Checker-exact = (b : List ℕ) → Bytes-only b → Exact b (judged-bytes b)
 
 -- u is t with another list of a: the lists of all others, places, lots and points are the same
 pub record Other-list (t u : Tables) (a : ℕ) : Type 0 where
