@@ -59,7 +59,7 @@ module _ (t : Tables) (ok : Proper t) where
       let behind = drop (all-seats t) benches in
       let whole : benches ≡ flat f (workshops t) ++ behind = sym (take-append-drop (all-seats t) benches) ∙ ap (λ (x : List ℕ). x ++ behind) e in
       let found = drop-flat-at f (λ v. getD (t .seats) v 0) (workshops t) (ok .seated .0)
-          (λ v h. omega (arith, length-bench-at v h, ok .seated .1 v h)) behind w l in
+      (λ v h. omega (arith, length-bench-at v h, ok .seated .1 v h)) behind w l in
       ap (λ (x : List ℕ). take (places-at t w) (drop (getD (t .seats) w 0) x)) whole
       ∙ ap (take (places-at t w)) (found .1)
       ∙ take-at (f w) (found .0) (places-at t w) (length-bench-at w l)
@@ -117,10 +117,10 @@ module _ (t : Tables) (ok : Proper t) where
     pub letter-settled : (rows results benches : List ℕ) → Settled t rows results benches → letter-from t rows results benches a ≡ own-letter t a
     letter-settled rows results benches s =
         let result : getD results a 0 ≡ told (market t) a =
-            sym (getD-take (applicants t) results a 0 l) ∙ ap (λ (xs : List ℕ). getD xs a 0) (s .results-are) ∙ getD-table _ (applicants t) a 0 l
+        sym (getD-take (applicants t) results a 0 l) ∙ ap (λ (xs : List ℕ). getD xs a 0) (s .results-are) ∙ getD-table _ (applicants t) a 0 l
         in
         let place : getD results a 0 % 256 ≡ told (market t) a =
-            elim told-place [ inl h ↦ let f = few in omega arith | inr e ↦ omega arith ]
+        elim told-place [ inl h ↦ let f = few in omega arith | inr e ↦ omega arith ]
         in
         letter-same (own-letter t a) _ _ _ _ refl refl (table-same blank _ (own-entry t a) n (entry-settled rows results benches s)) place
 
@@ -156,7 +156,7 @@ module _ (t : Tables) (ok : Proper t) where
         let count = length-table (own-entry t a) n in
         let g : ℕ → Bool = λ j. getD (reached-list lot es) j false in
         let each : (j : ℕ) → j < n → reaches-cut t a (at j) ≡ g j =
-            λ j h. sym (getD-map (reached-with lot) es j blank false (omega arith) ∙ ap (reached-with lot) (getD-table (own-entry t a) n j blank h))
+        λ j h. sym (getD-map (reached-with lot) es j blank false (omega arith) ∙ ap (reached-with lot) (getD-table (own-entry t a) n j blank h))
         in
         told-by-cuts t ok a l ∙ ap position (first-that-same (λ j. reaches-cut t a (at j)) g n each ∙ ap (first-that g) (sym count))
 
@@ -176,15 +176,15 @@ nothing-else t u ok-t ok-u a lt lu same =
     let es-t = table (own-entry t a) (list-length t a) in
     let es-u = table (own-entry u a) (list-length u a) in
     let len : list-length t a ≡ list-length u a =
-        sym (length-list t ok-t a lt) ∙ ap {B = ℕ} (λ (xs : List ℕ). length xs) (same .lists) ∙ length-list u ok-u a lu
+    sym (length-list t ok-t a lt) ∙ ap {B = ℕ} (λ (xs : List ℕ). length xs) (same .lists) ∙ length-list u ok-u a lu
     in
     let entries : es-t ≡ es-u =
-        table-same blank (own-entry t a) (own-entry u a) (list-length t a)
-        (λ j h. entry-same (ap (λ (xs : List ℕ). getD xs j 0) (same .lists)) (same .points j h) (same .cuts j h))
-        ∙ ap (table (own-entry u a)) len
+    table-same blank (own-entry t a) (own-entry u a) (list-length t a)
+    (λ j h. entry-same (ap (λ (xs : List ℕ). getD xs j 0) (same .lists)) (same .points j h) (same .cuts j h))
+    ∙ ap (table (own-entry u a)) len
     in
     let first : ℕ → List Entry → ℕ = λ lot es. first-place (record { applicant = a; lot = lot; entries = es; place = 0 }) in
     let place : told (market t) a ≡ told (market u) a =
-        place-own t ok-t a lt ∙ ap (λ (lot : ℕ). first lot es-t) (same .lots) ∙ ap (first (getD (u .lots) a 0)) entries ∙ sym (place-own u ok-u a lu)
+    place-own t ok-t a lt ∙ ap (λ (lot : ℕ). first lot es-t) (same .lots) ∙ ap (first (getD (u .lots) a 0)) entries ∙ sym (place-own u ok-u a lu)
     in
     letter-same (own-letter u a) _ _ _ _ refl (same .lots) entries place
