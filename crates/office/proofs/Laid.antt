@@ -44,14 +44,22 @@ module _ (t : Tables) where
   unfolding bench-at bench-of empty-bench
   length-bench-at s w = length-after-all _ _ _ ∙ length-replicate (places-at t w) _
 
+  length-benches-below : Proper t → (w : ℕ) → w ≤ workshops t → length (flat (bench-at t (final (market t))) w) ≡ getD (t .seats) w 0
+  length-benches-below proper w l =
+      length-flat (bench-at t (final (market t))) (λ k. getD (t .seats) k 0) w (proper .seated .0)
+      (λ k h. let up = proper .seated .1 k (omega arith) in omega (arith, length-bench-at (final (market t)) k))
+
+  pub length-benches : Proper t → length (benches-of t) ≡ getD (t .seats) (workshops t) 0
+  unfolding benches-of benches-at
+  length-benches proper = length-benches-below proper (workshops t) (omega arith)
+
   module _ (proper : Proper t) (w : ℕ) where
     pub bench-part : w < workshops t →
         (take (getD (t .seats) (w + 1) 0 - getD (t .seats) w 0) (drop (getD (t .seats) w 0) (benches-of t)) ≡ bench-at t (final (market t)) w)
         × (getD (t .seats) (w + 1) 0 ≤ length (benches-of t))
     unfolding benches-of benches-at
     bench-part l =
-        let begins = length-flat (bench-at t (final (market t))) (λ k. getD (t .seats) k 0) w (proper .seated .0)
-        (λ k h. let up = proper .seated .1 k (omega arith) in omega (arith, length-bench-at (final (market t)) k)) in
+        let begins = length-benches-below proper w (omega arith) in
         let up = proper .seated .1 w l in
         flat-part (bench-at t (final (market t))) (workshops t) w (getD (t .seats) w 0) (getD (t .seats) (w + 1) 0) l begins (omega (arith, length-bench-at (final (market t)) w))
 
@@ -71,12 +79,19 @@ module _ (t : Tables) where
     letter-at-more : (a : ℕ) → a < applicants t → letter-at t (a + 1) ≡ letter-at t a + length (letter-of t a)
     letter-at-more a l = omega (arith, length-letter-of a, proper .started .2 a l)
 
+    length-letters-below : (a : ℕ) → a ≤ applicants t → length (flat (letter-of t) a) ≡ letter-at t a
+    length-letters-below a l = length-flat (letter-of t) (letter-at t) a (omega (arith, proper .started .1)) (λ k h. letter-at-more k (omega arith))
+
+    pub length-letters : length (letters-of t) ≡ 6 * applicants t + 8 * length (t .entries)
+    unfolding letters-of
+    length-letters = omega (arith, length-letters-below (applicants t) (omega arith), proper .started .4)
+
     pub letter-part : (a : ℕ) → a < applicants t →
         (take (letter-at t (a + 1) - letter-at t a) (drop (letter-at t a) (letters-of t)) ≡ letter-of t a)
         × (letter-at t (a + 1) ≤ length (letters-of t))
     unfolding letters-of
     letter-part a l =
-        let begins = length-flat (letter-of t) (letter-at t) a (omega (arith, proper .started .1)) (λ k h. letter-at-more k (omega arith)) in
+        let begins = length-letters-below a (omega arith) in
         flat-part (letter-of t) (applicants t) a (letter-at t a) (letter-at t (a + 1)) l begins (sym (letter-at-more a l))
 
 -- The same where u, bs and ls are the round, the benches and the letters in slices, and n is how many workshops or applicants there are.

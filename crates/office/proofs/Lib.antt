@@ -8,3 +8,4 @@ pub mod Roomy
 pub mod Refills
 pub mod Promising
 pub mod OtherLists
+pub mod Leaving
