@@ -1,5 +1,5 @@
 -- The beginning of a run: nobody has asked, and all seats are empty.
-use mathlib.Core.Path.{_≡_, refl, sym, ap, subst, _∙_}
+use mathlib.Core.Path.{_≡_, refl, sym, ap, ap₂, _∙_}
 use mathlib.Core.Bool.{Bool, true, false}
 use mathlib.Core.Logic.{_⊎_, inl, inr}
 use mathlib.Core.List.{List, [], _++_}
@@ -17,7 +17,7 @@ use Rattle.bench.specs.Row.{after-all, empty-bench}
 use Rattle.asking.specs.Ended.{bench-of, rows-at}
 use Rattle.asking.specs.Asking.{gone, counts, at-rest, Asking, Behind}
 use Rattle.asking.proofs.Progress.{going-begins, not-gone}
-use Rattle.asking.proofs.Parts.{counts-at}
+use Rattle.asking.proofs.Parts.{counts-at, counts-past}
 use Rattle.asking.proofs.Gathered.{rows-at-none}
 use Rattle.asking.proofs.Found.{seats-rise, seats-in-all}
 
@@ -42,6 +42,13 @@ module _ (x n : ℕ) (old : List ℕ) (room : n ≤ length old) where
       ∙ take-append-le (j - i) (replicate (n - i) x) _ (let c = length-replicate (n - i) x in omega arith)
       ∙ take-replicate (j - i) (n - i) x (omega arith)
 
+-- what a fill of the front leaves
+pub over-filled : (x n : ℕ) (old part : List ℕ) → n ≤ length old → part ≡ replicate (length (take (n - 0) old)) x → part ++ drop (n - 0) old ≡ over (replicate n x) old
+over-filled x n old part room is-part =
+    let whole : length (take (n - 0) old) ≡ n = omega (arith, length-take (n - 0) old) in
+    let behind : n - 0 ≡ length (replicate n x) = omega (arith, length-replicate n x) in
+    ap₂ _++_ (is-part ∙ ap (λ (k : ℕ). replicate k x) whole) (ap (λ (k : ℕ). drop k old) behind)
+
 module _ (t : Tables) (ok : Proper t) (results benches old-results old-benches : List ℕ)
     (room-results : applicants t ≤ length old-results) (room-benches : getD (t .seats) (workshops t) 0 ≤ length old-benches)
     (is-results : results ≡ over (replicate (applicants t) 0) old-results) (is-benches : benches ≡ over (replicate (getD (t .seats) (workshops t) 0) no-row) old-benches) where
@@ -49,14 +56,7 @@ module _ (t : Tables) (ok : Proper t) (results benches old-results old-benches :
   fresh c l = rw is-results (getD-cleared 0 (applicants t) old-results room-results c l)
 
   none-asked : (c : ℕ) → counts t results c ≡ 0
-  none-asked c =
-      elim (cases-lt c (applicants t)) [
-        | inl l ↦ counts-at t results c l ∙ fresh c l
-        | inr l ↦ past l
-      ]
-    where
-      past : applicants t ≤ c → counts t results c ≡ 0
-      past l = ?
+  none-asked c = elim (cases-lt c (applicants t)) [ inl l ↦ counts-at t results c l ∙ fresh c l | inr l ↦ counts-past t results c l ]
 
   bench-empty : (w : ℕ) → bench-of t (gone (market t .wish) (counts t results) w) w ≡ empty-bench (places-at t w)
   unfolding bench-of after-all
@@ -72,9 +72,10 @@ module _ (t : Tables) (ok : Proper t) (results benches old-results old-benches :
         seated = λ w l.
             rw is-benches (between-cleared no-row (getD (t .seats) (workshops t) 0) old-benches room-benches (getD (t .seats) w 0) (getD (t .seats) (w + 1) 0) (seats-rise t ok w l) (seats-in-all t ok w l))
             ∙ sym (bench-empty w);
-        room =
-            (let e = ap {B = ℕ} (λ (xs : List ℕ). length xs) is-results ∙ length-cleared 0 (applicants t) old-results room-results in omega arith
-            , let e = ap {B = ℕ} (λ (xs : List ℕ). length xs) is-benches ∙ length-cleared no-row (getD (t .seats) (workshops t) 0) old-benches room-benches in omega arith);
+        room = (
+          let e = ap {B = ℕ} (λ (xs : List ℕ). length xs) is-results ∙ length-cleared 0 (applicants t) old-results room-results in omega arith,
+          let e = ap {B = ℕ} (λ (xs : List ℕ). length xs) is-benches ∙ length-cleared no-row (getD (t .seats) (workshops t) 0) old-benches room-benches in omega arith,
+        );
       }
 
   pub behind-begins : Behind t results benches old-results old-benches

@@ -23,16 +23,17 @@ module _ (t : Tables) (results : List ℕ) where
   unfolding counts
   counts-set-same b x l room = getD-take (applicants t) (set results b x) b 0 l ∙ getD-set-same results b x 0 (omega arith)
 
-  pub counts-set-other : (b x c : ℕ) → c ≢ b → counts t (set results b x) c ≡ counts t results c
+  pub counts-past : (c : ℕ) → applicants t ≤ c → counts t results c ≡ 0
   unfolding counts
+  counts-past c l = getD-past (take (applicants t) results) c 0 (omega (arith, length-take (applicants t) results))
+
+module _ (t : Tables) (results : List ℕ) where
+  pub counts-set-other : (b x c : ℕ) → c ≢ b → counts t (set results b x) c ≡ counts t results c
   counts-set-other b x c ne =
       elim (cases-lt c (applicants t)) [
-        | inl l ↦ getD-take (applicants t) (set results b x) c 0 l ∙ getD-set-other results b c x 0 ne ∙ sym (getD-take (applicants t) results c 0 l)
-        | inr l ↦ past (set results b x) c l ∙ sym (past results c l)
+        | inl l ↦ counts-at t (set results b x) c l ∙ getD-set-other results b c x 0 ne ∙ sym (counts-at t results c l)
+        | inr l ↦ counts-past t (set results b x) c l ∙ sym (counts-past t results c l)
       ]
-    where
-      past : (xs : List ℕ) (i : ℕ) → applicants t ≤ i → getD (take (applicants t) xs) i 0 ≡ 0
-      past xs i h = getD-past (take (applicants t) xs) i 0 (omega (arith, length-take (applicants t) xs))
 
   pub but-for-same : (b : ℕ) → but-for t results b b ≡ counts t results b
   unfolding but-for

@@ -34,9 +34,10 @@ module _ (t : Tables) (old s : List ℕ) (k placed : ℕ) (told : s ≡ over (ta
   unfolding count
   tell-placed h =
       let same = getD-untold in
-      let yes-test = lt-ltb (getD old k 0 - 1) (list-length t k) (omega arith) in
-      ( told-one _ (ap (λ (x : ℕ). x - 1) same ∙ sym (cond-true _ _ _ yes-test))
-      , rw (add-one k, yes-test) (omega arith) )
+      let yes-test = lt-ltb (getD old k 0 - 1) (list-length t k) (omega arith) in (
+        told-one _ (ap (λ (x : ℕ). x - 1) same ∙ sym (cond-true _ _ _ yes-test)),
+        rw (add-one k, yes-test) (omega arith),
+      )
 
   pub tell-none : list-length t k ≤ getD s k 0 - 1 → (set s k 255 ≡ over (table (told-from t old) (k + 1)) old) × (placed ≡ count (ends-at t old) (k + 1))
   unfolding count

@@ -24,7 +24,12 @@ pub struct Outcome {
 // Runs a round. It finds the row of every list entry, and lets all applicants ask until nobody is turned down any more. Then `results`
 // has for each applicant the position in its list of what it got, or 255, and `benches` has for each workshop the rows of those it
 // keeps, best first. Slices that are too short are refused and stay as they are.
-pub fn run(round: &Round, rows: &mut [u32], results: &mut [u16], benches: &mut [u32]) -> Result<Outcome, Refusal>
+pub fn run(
+    round: &Round,
+    rows: &mut [u32],
+    results: &mut [u16],
+    benches: &mut [u32],
+) -> Result<Outcome, Refusal>
     ensures value { λ r. ⌜ r ≡ outcome (no-room (tables-of (now (round .entry))) (length (now (results .entry))) (length (now (benches .entry))) (length (now (rows .entry)))) (record { asks = asks (market (tables-of (now (round .entry)))); placed = placed (market (tables-of (now (round .entry)))) }) ⌝ }
     ensures rows { λ r. ⌜ now (rows .exit) ≡ laid r (rows-found (tables-of (now (round .entry)))) (now (rows .entry)) ⌝ }
     ensures results { λ r. ⌜ now (results .exit) ≡ laid r (table (told (market (tables-of (now (round .entry))))) (applicants (tables-of (now (round .entry))))) (now (results .entry)) ⌝ }

@@ -4,17 +4,17 @@ use mathlib.Core.Path.{_≡_, refl, ap, sym, subst, _∙_}
 use mathlib.Core.Bool.{Bool, true, false, cond}
 use mathlib.Core.List.{List, [], _∷_, _++_}
 use mathlib.Core.Logic.{_≢_, _⊎_, inl, inr}
-use Prim.Native.Nat.{ℕ, zero, suc, _+_, _-_, _≤_, _<_, min}
+use Prim.Native.Nat.{ℕ, zero, suc, _-_, _≤_, _<_, min}
 use native.Mathlib.Omega.{arith}
 use lib.Dec.{ltb, eqb}
-use lib.ListN.{length, replicate}
+use lib.ListN.{length}
 use Rattle.std.specs.Orderings.{Decides}
 use Rattle.std.proofs.shelf.Lists.{append-nil}
-use Rattle.std.proofs.shelf.Tests.{cases-eq, cases-lt, eqb-true, ne-eqb, false≢true, le-ltb, lt-ltb, ltb-true, ltb-false}
+use Rattle.std.proofs.shelf.Tests.{cases-eq, cases-lt, ne-eqb, false≢true, le-ltb, lt-ltb, ltb-true, ltb-false}
 use Rattle.std.proofs.shelf.Ways.{tells}
 use Rattle.layout.specs.Tables.{has}
 use Rattle.points.specs.Standing.{no-row}
-use Rattle.bench.specs.Row.{after, out, taken-in, after-all, empty-bench}
+use Rattle.bench.specs.Row.{after, taken-in, after-all, empty-bench}
 use Rattle.bench.specs.Best.{number, above, Best-first, Told-apart, Best-of}
 use Rattle.bench.proofs.Numbers.{has-here, has-there, has-cases, number-less, number-none, number-more, number-between, number-middle, has-same, has-right, has-number, number-has}
 use Rattle.bench.proofs.Laws.{length-after, number-after, has-after, after-worthless, above-head, above-after, sorted-after, taken-in-after}

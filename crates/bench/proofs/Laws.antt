@@ -3,7 +3,7 @@ use mathlib.Core.Path.{_≡_, refl, ap, sym, _∙_}
 use mathlib.Core.Bool.{Bool, true, false, cond}
 use mathlib.Core.List.{List, [], _∷_, _++_}
 use mathlib.Core.Logic.{_⊎_, inl, inr}
-use Prim.Native.Nat.{ℕ, zero, suc, _+_, _≤_, _<_, min}
+use Prim.Native.Nat.{ℕ, suc, _+_, _≤_, _<_, min}
 use native.Mathlib.Omega.{arith}
 use lib.Dec.{ltb, eqb}
 use lib.ListN.{length, take}
@@ -13,7 +13,7 @@ use Rattle.layout.specs.Tables.{has}
 use Rattle.bench.specs.Row.{after, after-all, out, leads, taken-in, last-seat, left-out}
 use Rattle.bench.specs.Best.{number, above, Best-first}
 use Rattle.bench.proofs.Shift.{cond-same, leads-false}
-use Rattle.bench.proofs.Numbers.{has-here, has-there, has-cases, number-le, number-none, has-number, number-has, number-between}
+use Rattle.bench.proofs.Numbers.{has-here, has-there, has-cases, number-le, number-none, has-number, number-has}
 
 module _ (v : ℕ → ℕ) where
   pub length-after : (x : ℕ) (b : List ℕ) → length (after v x b) ≡ length b
@@ -187,3 +187,9 @@ module _ (v : ℕ → ℕ) where
   unfolding after-all
   length-after-all [] b = refl
   length-after-all (x ∷ xs) b = length-after-all xs (after v x b) ∙ length-after x b
+
+  -- one more asks behind all the others
+  pub after-all-push : (x : ℕ) (xs b : List ℕ) → after-all v (xs ++ x ∷ []) b ≡ after v x (after-all v xs b)
+  unfolding after-all
+  after-all-push x [] b = refl
+  after-all-push x (y ∷ ys) b = after-all-push x ys (after v y b)

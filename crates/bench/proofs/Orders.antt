@@ -1,22 +1,21 @@
 -- After any row of asks: the order does not matter, and one more ask adds one more to those who asked.
 use mathlib.Core.Path.{_≡_, refl, ap, sym, _∙_}
-use mathlib.Core.Bool.{Bool, true, false, cond, not, _&&_, _||_}
-use mathlib.Core.List.{List, [], _∷_}
-use mathlib.Core.Logic.{_≢_, _⊎_, inl, inr}
-use Prim.Native.Nat.{ℕ, _+_, _≤_, _<_, min}
+use mathlib.Core.Bool.{Bool, true, not}
+use mathlib.Core.List.{List, _∷_}
+use mathlib.Core.Logic.{inl, inr}
+use Prim.Native.Nat.{ℕ, min}
 use native.Mathlib.Omega.{arith}
 use lib.Dec.{ltb, eqb}
 use lib.ListN.{length}
-use Rattle.std.specs.Slices.{Shuffled}
 use Rattle.std.proofs.shelf.Lists.{length-replicate}
-use Rattle.std.proofs.shelf.Tests.{cases-eq, cases-bool, eq-eqb, ne-eqb, lt-ltb, le-ltb}
+use Rattle.std.proofs.shelf.Tests.{cases-eq}
 use Rattle.std.proofs.shelf.Ways.{tells}
 use Rattle.layout.specs.Tables.{has}
 use Rattle.points.specs.Standing.{no-row}
-use Rattle.bench.specs.Row.{after, out, after-all, empty-bench, taken-in, left-out}
-use Rattle.bench.specs.Best.{number, above, Best-first, Told-apart, Best-of}
-use Rattle.bench.proofs.Numbers.{has-there, has-same, has-number, number-has, number-same, number-shuffled}
-use Rattle.bench.proofs.Laws.{length-after, length-after-all, number-after, taken-in-after, left-out-out}
+use Rattle.bench.specs.Row.{after-all, empty-bench, taken-in}
+use Rattle.bench.specs.Best.{number, above, Told-apart, Best-of}
+use Rattle.bench.proofs.Numbers.{has-there, has-same, number-same}
+use Rattle.bench.proofs.Laws.{length-after, length-after-all, taken-in-after}
 use Rattle.bench.proofs.Holding.{best-of-after-all, best-of-taken-in, best-of-unique}
 
 pub length-empty : (places : ℕ) → length (empty-bench places) ≡ places

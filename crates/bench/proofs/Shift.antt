@@ -1,6 +1,6 @@
 -- The loop of an ask: seat by seat from the last one up, whoever goes behind the asker moves down by one.
 use mathlib.Core.Path.{_≡_, refl, ap, sym, _∙_}
-use mathlib.Core.Bool.{Bool, true, false, cond, _&&_}
+use mathlib.Core.Bool.{Bool, true, false, cond}
 use mathlib.Core.Logic.{_⊎_, inl, inr}
 use mathlib.Core.List.{List, [], _∷_}
 use Prim.Native.Nat.{ℕ, zero, suc, _+_, _-_, _≤_, _<_}
@@ -8,7 +8,7 @@ use native.Mathlib.Omega.{arith}
 use lib.Dec.{ltb, eqb}
 use lib.ListN.{length, getD, set, take, drop}
 use Rattle.std.proofs.shelf.Lists.{length-take-le, drop-more, drop-all}
-use Rattle.std.proofs.shelf.Tests.{cond-true, cond-false, and-left, and-right, and-from, eq-eqb, ne-eqb, le-ltb, ltb-true}
+use Rattle.std.proofs.shelf.Tests.{cond-true, cond-false, and-left, and-right, and-from, eq-eqb, ne-eqb, ltb-true}
 use Rattle.points.specs.Standing.{no-row}
 use Rattle.bench.specs.Row.{leads, taken-in, left-out, last-seat, answer-of}
 use Rattle.bench.specs.declared.Answer.the-variants.{Kept, Displaced, TurnedDown}

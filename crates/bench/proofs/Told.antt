@@ -1,21 +1,20 @@
 -- What an answer tells: who sits on the bench after an ask, and who has left it.
-use mathlib.Core.Path.{_≡_, refl, ap, sym, _∙_}
-use mathlib.Core.Bool.{Bool, true, false, cond, not, _&&_, _||_}
-use mathlib.Core.List.{List, [], _∷_}
+use mathlib.Core.Path.{_≡_, ap, _∙_}
+use mathlib.Core.Bool.{Bool, true, cond, not, _&&_, _||_}
+use mathlib.Core.List.{List, _∷_}
 use mathlib.Core.Logic.{_≢_, _⊎_, inl, inr}
 use Prim.Native.Nat.{ℕ, _+_, _≤_, _<_}
 use native.Mathlib.Omega.{arith}
-use lib.Dec.{ltb, eqb}
-use Rattle.std.proofs.shelf.Tests.{cases-eq, cases-bool, eq-eqb, ne-eqb, eqb-true, eqb-false, cond-true, cond-false}
+use lib.Dec.{eqb}
+use Rattle.std.proofs.shelf.Tests.{cases-eq, eq-eqb, ne-eqb, cond-true, cond-false}
 use Rattle.std.proofs.shelf.Ways.{tells}
 use Rattle.layout.specs.Tables.{Tables, Proper, workshops, has}
 use Rattle.points.specs.Standing.{no-row, row-worth}
 use Rattle.points.specs.Cursors.{from-row, to-row}
 use Rattle.points.proofs.Lots.{row-worth-no-row}
 use Rattle.points.proofs.Worths.{row-same}
-use Rattle.bench.specs.Row.{after, out, taken-in, left-out, answer-of}
-use Rattle.bench.specs.Best.{number, Best-first, Told-apart, Best-of}
-use Rattle.bench.specs.declared.Answer.{Answer}
+use Rattle.bench.specs.Row.{taken-in, left-out, answer-of}
+use Rattle.bench.specs.Best.{number, Told-apart, Best-of}
 use Rattle.bench.specs.declared.Answer.the-variants.{Kept, Displaced, TurnedDown}
 use Rattle.bench.proofs.Numbers.{has-number, has-is}
 use Rattle.bench.proofs.Laws.{number-after, taken-in-after, left-out-out}

@@ -20,7 +20,7 @@ number p (x ∷ xs) = cond (p x) 1 0 + number p xs
 abbrev pub above : (ℕ → ℕ) → ℕ → List ℕ → ℕ
 above v u xs = number (λ x. ltb u (v x)) xs
 
--- whoever sits further down is worth less; only an empty seat, which is worth 0, may stand there again
+-- whoever sits further down is worth less, or is the same number again, as empty seats are; these, worth 0, come last
 unfoldable pub Best-first : (ℕ → ℕ) → List ℕ → Type 0
 Best-first v [] = Unit {0}
 Best-first v (y ∷ ys) = ((z : ℕ) → has z ys ≡ true → (v z < v y) ⊎ (z ≡ y)) × Best-first v ys

@@ -2,11 +2,11 @@
 -- First what an ask does: an asker is carried down the bench; where it goes ahead of who sits there the two change places, and
 -- whoever is carried past the last seat is out. Then the same as the code does it, up from the last seat, which on a bench that is
 -- best first comes to the same and is over at once for most askers. Then what a bench holds.
-use mathlib.Core.Bool.{Bool, true, false, cond, _&&_}
+use mathlib.Core.Bool.{Bool, true, cond, _&&_}
 use mathlib.Core.List.{List, [], _∷_}
-use Prim.Native.Nat.{ℕ, _+_, _-_}
+use Prim.Native.Nat.{ℕ}
 use lib.Dec.{ltb, eqb}
-use lib.ListN.{length, getD, take, replicate}
+use lib.ListN.{length, take, replicate}
 use Rattle.points.specs.Standing.{no-row}
 use Rattle.bench.specs.declared.Answer.{Answer}
 use Rattle.bench.specs.declared.Answer.the-variants.{Kept, Displaced, TurnedDown}

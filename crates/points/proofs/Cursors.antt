@@ -1,16 +1,16 @@
 -- The merge pass: the cursors never pass a row that is still to come, and what is written is what the rows of the lists are.
-use mathlib.Core.Path.{_≡_, refl, ap, sym, _∙_}
-use mathlib.Core.Bool.{Bool, true, false, cond, _&&_}
+use mathlib.Core.Path.{_≡_, ap, sym, _∙_}
+use mathlib.Core.Bool.{cond, _&&_}
 use mathlib.Core.List.{List, [], _∷_, _++_}
-use mathlib.Core.Logic.{_≢_, _⊎_, inl, inr}
+use mathlib.Core.Logic.{inl, inr}
 use Prim.Native.Nat.{ℕ, _+_, _-_, _≤_, _<_}
 use native.Mathlib.Omega.{arith}
 use lib.Dec.{ltb, eqb}
-use lib.ListN.{length, getD, set, take, drop, replicate}
+use lib.ListN.{length, getD, set, drop, replicate}
 use Rattle.std.proofs.shelf.Tests.{cases-eq, cases-lt}
 use Rattle.std.proofs.shelf.Lists.{append-nil, append-assoc, length-append, length-drop, set-at, drop-more, getD-set-same, getD-set-other, getD-replicate, getD-take, getD-drop}
 use Rattle.layout.specs.Slices.{table, flat, over}
-use Rattle.layout.specs.Tables.{Tables, Proper, applicants, workshops, rows, list-at, list-length}
+use Rattle.layout.specs.Tables.{Tables, Proper, applicants, workshops, list-at, list-length}
 use Rattle.layout.proofs.Offsets.{rises}
 use Rattle.layout.proofs.Flats.{length-table, table-more, flat-more, length-flat}
 use Rattle.points.specs.Standing.{row-of, rows-of-list, no-row}

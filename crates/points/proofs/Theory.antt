@@ -1,21 +1,21 @@
 -- The round of the theory that proper tables are is proper, and what its market says in the words of the tables.
-use mathlib.Core.Path.{_≡_, refl, ap, sym, subst, _∙_}
-use mathlib.Core.Bool.{Bool, true, false, _&&_}
-use mathlib.Core.List.{List, [], _∷_}
-use mathlib.Core.Logic.{_≢_, _⊎_, inl, inr}
-use Prim.Native.Nat.{ℕ, _+_, _-_, _≤_, _<_}
+use mathlib.Core.Path.{_≡_, ap, sym, _∙_}
+use mathlib.Core.Bool.{Bool, _&&_}
+use mathlib.Core.List.{List, []}
+use mathlib.Core.Logic.{inl, inr}
+use Prim.Native.Nat.{ℕ, _+_, _≤_, _<_}
 use native.Mathlib.Omega.{arith}
 use lib.Dec.{ltb}
-use lib.ListN.{length, getD, take, drop}
+use lib.ListN.{length, getD, drop}
 use Rattle.std.proofs.shelf.Tests.{cases-lt, cases-order}
 use Rattle.std.proofs.shelf.Lists.{getD-past, getD-take, getD-drop, getD-default, length-take-le, length-drop}
 use Rattle.layout.specs.Slices.{table}
-use Rattle.layout.specs.Tables.{Tables, Proper, applicants, workshops, rows, places-at, list-at, list-length}
+use Rattle.layout.specs.Tables.{Tables, Proper, applicants, workshops, places-at, list-at, list-length}
 use Rattle.layout.proofs.Flats.{length-table, getD-table}
 use Rattle.layout.proofs.Seen.{no-repeat-apart}
 use Rattle.round.specs.Places as places
 use Rattle.round.specs.Promise as promise
-use Rattle.round.specs.Market.{Market, count}
+use Rattle.round.specs.Market.{count}
 use Rattle.round.specs.ByPoints.{market-of, wish-of, keeps-best, ahead-of}
 use Rattle.round.proofs.Count.{count-same}
 use Rattle.points.specs.Standing.{worth, round-of, market}

@@ -1,11 +1,11 @@
 -- Worths tell apart: whoever has a row at a workshop is worth something there, and no two are worth the same.
-use mathlib.Core.Path.{_≡_, refl, ap, sym, _∙_}
-use mathlib.Core.Logic.{_≢_, _⊎_, inl, inr}
-use Prim.Native.Nat.{ℕ, _+_, _≤_, _<_}
+use mathlib.Core.Path.{_≡_, ap, sym, _∙_}
+use mathlib.Core.Logic.{_≢_, inl, inr}
+use Prim.Native.Nat.{ℕ, _≤_, _<_}
 use native.Mathlib.Omega.{arith}
 use lib.Dec.{ltb}
 use lib.ListN.{getD}
-use Rattle.std.proofs.shelf.Tests.{cases-eq, cases-lt, cond-true, lt-ltb}
+use Rattle.std.proofs.shelf.Tests.{cases-lt, cond-true, lt-ltb}
 use Rattle.layout.specs.Tables.{Tables, Proper, workshops, rows}
 use Rattle.round.proofs.Worth.{worth-above, same-points}
 use Rattle.points.specs.Standing.{row-of, no-row, points-of-row, lot-of-row, row-worth, worth}

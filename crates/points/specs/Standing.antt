@@ -4,7 +4,7 @@ use mathlib.Core.Bool.{cond}
 use mathlib.Core.List.{List}
 use Prim.Native.Nat.{ℕ, zero, suc, _+_, _-_}
 use lib.Dec.{eqb, ltb}
-use lib.ListN.{length, getD}
+use lib.ListN.{getD}
 use Rattle.layout.specs.Slices.{table, flat}
 use Rattle.layout.specs.Tables.{Tables, applicants, workshops, rows, places-at, list-length, list-at}
 use Rattle.round.specs.Places as places

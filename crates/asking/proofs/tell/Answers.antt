@@ -25,7 +25,7 @@ add-placed c =
 pub loop-a-again : need.loop-a-again
 loop-a-again c =
     elim (c .if-at-list-len .came) [
-      then-at-list-len w ↦
+      | then-at-list-len w ↦
           let step = tell-placed (tables-of (c .args .round .now)) (c .args .results .now) (c .loop-a .results) (c .loop-a .a) (c .loop-a .placed) (c .loop-a .inv .0) (c .loop-a .inv .1) (omega arith) (rw (c .list-len .ensures) at (w .if-at-list-len .taken)) in
           rw (w .results-is, w .placed-is) step
       | else-at-list-len w ↦

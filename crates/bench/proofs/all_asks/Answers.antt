@@ -1,3 +1,4 @@
+-- The bench of all who asked holds the best of them.
 use Rattle.bench.proofs.Holding.{best-of-after-all}
 use Rattle.bench.proofs.all_asks.Needs as need
 

@@ -1,3 +1,4 @@
+-- Shuffled askers are as many of each kind.
 use Rattle.bench.proofs.Numbers.{number-shuffled}
 use Rattle.bench.proofs.Orders.{any-order-from}
 use Rattle.bench.proofs.any_order.Needs as need

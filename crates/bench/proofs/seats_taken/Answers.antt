@@ -1,3 +1,4 @@
+-- The number of taken seats is that of the seats with a worth.
 use Rattle.bench.proofs.Orders.{seats-taken}
 use Rattle.bench.proofs.seats_taken.Needs as need
 

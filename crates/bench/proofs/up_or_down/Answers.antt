@@ -1,3 +1,4 @@
+-- Both ways of asking, on a sorted bench.
 use Rattle.bench.proofs.Laws.{taken-in-after, left-out-out}
 use Rattle.bench.proofs.up_or_down.Needs as need
 

@@ -1,7 +1,6 @@
 -- All rows that were passed are of earlier applicants.
 use Prim.Native.Nat.{ℕ, _-_, _<_, _≤_}
 use lib.ListN.{getD}
-use denote.Ref.{now}
 use Rattle.codec.specs.Rounds.{tables-of}
 use Rattle.points.proofs.merge.next_row.Given as given
 
