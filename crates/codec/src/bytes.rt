@@ -7,7 +7,7 @@ ghost use Rattle.layout.specs.Bytes.{byte, word};
 ghost use Rattle.codec.specs.Readers.{there};
 
 // The byte at `at`.
-pub fn byte_at(bytes: &[u8], at: usize) -> Option<u8>
+pub(crate) fn byte_at(bytes: &[u8], at: usize) -> Option<u8>
     ensures { λ r. ⌜ r ≡ there (now (bytes .entry)) at 1 (byte (now (bytes .entry)) at) ⌝ }
 {
     if at >= bytes.len() {
@@ -17,7 +17,7 @@ pub fn byte_at(bytes: &[u8], at: usize) -> Option<u8>
 }
 
 // The number of two bytes at `at`, which are there.
-pub fn word_in(bytes: &[u8], at: usize) -> u16
+pub(crate) fn word_in(bytes: &[u8], at: usize) -> u16
     requires { ⌜ at + 2 ≤ length (now bytes) ⌝ }
     ensures { λ r. ⌜ r ≡ word (now (bytes .entry)) at ⌝ }
 {
@@ -25,7 +25,7 @@ pub fn word_in(bytes: &[u8], at: usize) -> u16
 }
 
 // The number of two bytes at `at`.
-pub fn word_at(bytes: &[u8], at: usize) -> Option<u16>
+pub(crate) fn word_at(bytes: &[u8], at: usize) -> Option<u16>
     ensures { λ r. ⌜ r ≡ there (now (bytes .entry)) at 2 (word (now (bytes .entry)) at) ⌝ }
 {
     if at >= bytes.len() || bytes.len() - at < 2 {

@@ -6,14 +6,14 @@ use codec::Round;
 use layout::RefusalPartialEq;
 
 // All of `order` ask, the first one first.
-pub fn ask_all(round: &Round, bench: &mut [u32], order: &[u32]) {
+pub(crate) fn ask_all(round: &Round, bench: &mut [u32], order: &[u32]) {
     for row in order {
         let _ = bench::ask(bench, round, *row);
     }
 }
 
 // The seats hold `best`, as many as there are, and the others are empty.
-pub fn seats_are(seats: &[u32], best: &[u32]) -> bool {
+pub(crate) fn seats_are(seats: &[u32], best: &[u32]) -> bool {
     for (i, seat) in seats.iter().enumerate() {
         let want = if i < best.len() { best[i] } else { u32::MAX };
         if *seat != want {
@@ -24,7 +24,7 @@ pub fn seats_are(seats: &[u32], best: &[u32]) -> bool {
 }
 
 // On an empty bench all of `order` ask; true if it holds `best` then.
-pub fn one_order(round: &Round, seats: &mut [u32], order: &[u32], best: &[u32]) -> bool {
+pub(crate) fn one_order(round: &Round, seats: &mut [u32], order: &[u32], best: &[u32]) -> bool {
     for seat in seats.iter_mut() {
         *seat = u32::MAX;
     }
@@ -33,7 +33,7 @@ pub fn one_order(round: &Round, seats: &mut [u32], order: &[u32], best: &[u32]) 
 }
 
 // Four rows ask in every order, each of them once; true if the bench always holds `best`.
-pub fn all_orders(round: &Round, seats: &mut [u32], best: &[u32]) -> bool {
+pub(crate) fn all_orders(round: &Round, seats: &mut [u32], best: &[u32]) -> bool {
     for a in 0..4u32 {
         for b in 0..4u32 {
             for c in 0..4u32 {
@@ -51,7 +51,7 @@ pub fn all_orders(round: &Round, seats: &mut [u32], best: &[u32]) -> bool {
 }
 
 // The same on benches of no, one, three and forty places.
-pub fn all_places(round: &Round, best: &[u32]) -> bool {
+pub(crate) fn all_places(round: &Round, best: &[u32]) -> bool {
     let mut none = [0u32; 0];
     let mut one = [0u32; 1];
     let mut three = [0u32; 3];
@@ -63,7 +63,7 @@ pub fn all_places(round: &Round, best: &[u32]) -> bool {
 }
 
 // One place, asked in turn by rows 2, 1, 0 and by a number that is no row.
-pub fn answers(round: &Round) -> bool {
+pub(crate) fn answers(round: &Round) -> bool {
     let mut one = [u32::MAX; 1];
     bench::ask(&mut one, round, 2) == Answer::Kept
         && bench::ask(&mut one, round, 1) == Answer::Displaced(2)
@@ -72,7 +72,7 @@ pub fn answers(round: &Round) -> bool {
 }
 
 // Each of the four applicants lists the workshop, and so finds its row; what lies behind is left.
-pub fn rows_found(round: &Round) -> bool {
+pub(crate) fn rows_found(round: &Round) -> bool {
     let mut rows = [7u32; 5];
     let found = points::find_rows(round, &mut rows);
     found == Ok(4) && seats_are(&rows, &[0, 1, 2, 3, 7])

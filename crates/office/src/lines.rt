@@ -7,7 +7,7 @@ ghost use Rattle.office.specs.Text.{head-line, placed-line, none-line};
 use std::alloc::AllocError;
 
 // How many asks there were, and how many applicants have a place.
-pub fn push_head(text: &mut String, asks: usize, placed: usize) -> Result<(), AllocError>
+pub(crate) fn push_head(text: &mut String, asks: usize, placed: usize) -> Result<(), AllocError>
     ensures { λ r. ⌜ made r (λ _. string-bytes (now (text .exit)) ≡ string-bytes (now (text .entry)) ++ head-line asks placed) ⌝ }
 {
     match write!(text, "asks {asks} placed {placed}\n") {
@@ -17,7 +17,7 @@ pub fn push_head(text: &mut String, asks: usize, placed: usize) -> Result<(), Al
 }
 
 // An applicant that has a place, where it has it, and the how manieth wish that is.
-pub fn push_placed(
+pub(crate) fn push_placed(
     text: &mut String,
     applicant: usize,
     workshop: u16,
@@ -35,7 +35,7 @@ pub fn push_placed(
 }
 
 // An applicant without a place.
-pub fn push_none(text: &mut String, applicant: usize) -> Result<(), AllocError>
+pub(crate) fn push_none(text: &mut String, applicant: usize) -> Result<(), AllocError>
     ensures { λ r. ⌜ made r (λ _. string-bytes (now (text .exit)) ≡ string-bytes (now (text .entry)) ++ none-line applicant) ⌝ }
 {
     match write!(text, "applicant {applicant} none\n") {

@@ -32,7 +32,7 @@ struct Sheets {
 }
 
 // The round that the bytes are, or their fault.
-pub fn read_owned(heap: Global, bytes: &[u8]) -> Result<OwnedRound, Fault>
+pub(crate) fn read_owned(heap: Global, bytes: &[u8]) -> Result<OwnedRound, Fault>
     ensures { λ r. ⌜ Cases r (λ o. decode (now (bytes .entry)) ≡ Ok (tables-owned o)) (Faulty (fault (now (bytes .entry)))) ⌝ }
 {
     match largest(heap) {

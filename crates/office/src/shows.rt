@@ -16,7 +16,7 @@ use cuts::cut_of;
 
 impl OwnedRound {
     // The round as the crates below take it.
-    pub fn view(&self) -> Round<'_>
+    pub(crate) fn view(&self) -> Round<'_>
         ensures { λ r. ⌜ tables-of r ≡ tables-owned (now (self .entry)) ⌝ }
     {
         Round {

@@ -31,7 +31,7 @@ fn push_full(text: &mut String, points: u16, lot: u16) -> Result<(), AllocError>
 }
 
 // The cut of a workshop.
-pub fn push_cut(text: &mut String, workshop: usize, cut: Cut) -> Result<(), AllocError>
+pub(crate) fn push_cut(text: &mut String, workshop: usize, cut: Cut) -> Result<(), AllocError>
     ensures { λ r. ⌜ made r (λ _. string-bytes (now (text .exit)) ≡ string-bytes (now (text .entry)) ++ cut-line workshop cut) ⌝ }
 {
     match write!(text, "cut {workshop} ") {
@@ -44,7 +44,7 @@ pub fn push_cut(text: &mut String, workshop: usize, cut: Cut) -> Result<(), Allo
 }
 
 // Whose letter it is, and the lot.
-pub fn push_whose(text: &mut String, applicant: u16, lot: u16) -> Result<(), AllocError>
+pub(crate) fn push_whose(text: &mut String, applicant: u16, lot: u16) -> Result<(), AllocError>
     ensures { λ r. ⌜ made r (λ _. string-bytes (now (text .exit)) ≡ string-bytes (now (text .entry)) ++ whose-line applicant lot) ⌝ }
 {
     match write!(text, "applicant {applicant} lot {lot}\n") {
@@ -54,7 +54,7 @@ pub fn push_whose(text: &mut String, applicant: u16, lot: u16) -> Result<(), All
 }
 
 // One wish: the workshop, the own points there, the cut, and whether it is reached.
-pub fn push_wish(
+pub(crate) fn push_wish(
     text: &mut String,
     wish: usize,
     entry: Entry,
@@ -95,7 +95,7 @@ fn push_reached(text: &mut String, reached: bool) -> Result<(), AllocError>
 }
 
 // The wish that was got.
-pub fn push_got(text: &mut String, wish: usize, workshop: u8) -> Result<(), AllocError>
+pub(crate) fn push_got(text: &mut String, wish: usize, workshop: u8) -> Result<(), AllocError>
     ensures { λ r. ⌜ made r (λ _. string-bytes (now (text .exit)) ≡ string-bytes (now (text .entry)) ++ got-line wish workshop) ⌝ }
 {
     match write!(text, "got wish {wish} workshop {workshop}\n") {

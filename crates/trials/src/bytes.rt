@@ -29,7 +29,7 @@ impl Bytes {
         self.push(((x >> 8) & 255) as u8);
     }
 
-    pub fn written(&self) -> &[u8] {
+    pub(crate) fn written(&self) -> &[u8] {
         &self.bytes[0..self.count.min(160)]
     }
 
@@ -86,7 +86,7 @@ fn rows(case: &Case) -> usize {
     number
 }
 
-pub fn write(case: &Case) -> Bytes {
+pub(crate) fn write(case: &Case) -> Bytes {
     let mut out = Bytes::new();
     out.push_word(case.applicants);
     out.push_word(case.workshops);
@@ -99,7 +99,7 @@ pub fn write(case: &Case) -> Bytes {
 }
 
 // The letter of an applicant that says a place in its list, or 255.
-pub fn letter(case: &Case, got: &Got, a: usize, place: usize) -> Bytes {
+pub(crate) fn letter(case: &Case, got: &Got, a: usize, place: usize) -> Bytes {
     let mut out = Bytes::new();
     let count = case.count_of(a).min(4);
     out.push_word(a);

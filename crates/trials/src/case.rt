@@ -18,19 +18,19 @@ pub struct Case {
 }
 
 impl Case {
-    pub fn places_of(&self, w: usize) -> usize {
+    pub(crate) fn places_of(&self, w: usize) -> usize {
         if w < 4 { self.places[w] as usize } else { 0 }
     }
 
-    pub fn lot_of(&self, a: usize) -> u16 {
+    pub(crate) fn lot_of(&self, a: usize) -> u16 {
         if a < 5 { self.lots[a] } else { 0 }
     }
 
-    pub fn count_of(&self, a: usize) -> usize {
+    pub(crate) fn count_of(&self, a: usize) -> usize {
         if a < 5 { self.counts[a] as usize } else { 0 }
     }
 
-    pub fn points_of(&self, w: usize, a: usize) -> u16 {
+    pub(crate) fn points_of(&self, w: usize, a: usize) -> u16 {
         if w < 4 && a < 5 {
             self.points[w * 5 + a]
         } else {
@@ -39,7 +39,7 @@ impl Case {
     }
 
     // What stands at a position of an applicant's list.
-    pub fn wish(&self, a: usize, k: usize) -> Option<usize> {
+    pub(crate) fn wish(&self, a: usize, k: usize) -> Option<usize> {
         if a < 5 && k < 4 && k < self.count_of(a) {
             Some(self.lists[a * 4 + k] as usize)
         } else {
@@ -48,7 +48,7 @@ impl Case {
     }
 
     // Where a workshop stands in an applicant's list.
-    pub fn position(&self, a: usize, w: usize) -> Option<usize> {
+    pub(crate) fn position(&self, a: usize, w: usize) -> Option<usize> {
         for k in 0..4 {
             if let Some(v) = self.wish(a, k) {
                 if v == w {
@@ -60,14 +60,14 @@ impl Case {
     }
 
     // Whether a goes ahead of b at w: more points, or as many and the lower lot.
-    pub fn ahead(&self, w: usize, a: usize, b: usize) -> bool {
+    pub(crate) fn ahead(&self, w: usize, a: usize, b: usize) -> bool {
         let own = self.points_of(w, a);
         let other = self.points_of(w, b);
         own > other || (own == other && self.lot_of(a) < self.lot_of(b))
     }
 
     // Whether somebody's list has w before `than`, a workshop or none.
-    pub fn dearer(&self, a: usize, w: usize, than: usize) -> bool {
+    pub(crate) fn dearer(&self, a: usize, w: usize, than: usize) -> bool {
         match (self.position(a, w), self.position(a, than)) {
             (Some(k), Some(j)) => k < j,
             (Some(_), None) => true,
@@ -75,32 +75,32 @@ impl Case {
         }
     }
 
-    pub fn set_points(&mut self, w: usize, a: usize, points: u16) {
+    pub(crate) fn set_points(&mut self, w: usize, a: usize, points: u16) {
         if w < 4 && a < 5 {
             self.points[w * 5 + a] = points;
         }
     }
 
-    pub fn set_lot(&mut self, a: usize, lot: u16) {
+    pub(crate) fn set_lot(&mut self, a: usize, lot: u16) {
         if a < 5 {
             self.lots[a] = lot;
         }
     }
 
-    pub fn set_places(&mut self, w: usize, places: u8) {
+    pub(crate) fn set_places(&mut self, w: usize, places: u8) {
         if w < 4 {
             self.places[w] = places;
         }
     }
 
-    pub fn clear_list(&mut self, a: usize) {
+    pub(crate) fn clear_list(&mut self, a: usize) {
         if a < 5 {
             self.counts[a] = 0;
         }
     }
 
     // Adds a workshop at the end of a list, where there is room.
-    pub fn add_wish(&mut self, a: usize, w: u8) {
+    pub(crate) fn add_wish(&mut self, a: usize, w: u8) {
         if a < 5 {
             let k = self.counts[a] as usize;
             if k < 4 {
@@ -118,13 +118,13 @@ pub struct Got {
 }
 
 impl Got {
-    pub fn nothing() -> Got {
+    pub(crate) fn nothing() -> Got {
         Got {
             workshops: [255; 5],
         }
     }
 
-    pub fn of(&self, a: usize) -> usize {
+    pub(crate) fn of(&self, a: usize) -> usize {
         if a < 5 {
             self.workshops[a] as usize
         } else {
@@ -132,14 +132,14 @@ impl Got {
         }
     }
 
-    pub fn set(&mut self, a: usize, w: usize) {
+    pub(crate) fn set(&mut self, a: usize, w: usize) {
         if a < 5 {
             self.workshops[a] = w.min(NONE) as u8;
         }
     }
 
     // How many of the applicants are placed at w.
-    pub fn number_at(&self, w: usize) -> usize {
+    pub(crate) fn number_at(&self, w: usize) -> usize {
         let mut number = 0usize;
         for a in 0..5 {
             if self.of(a) == w {
@@ -150,7 +150,7 @@ impl Got {
     }
 
     // How many of the applicants are placed.
-    pub fn placed(&self) -> usize {
+    pub(crate) fn placed(&self) -> usize {
         5usize.saturating_sub(self.number_at(NONE))
     }
 }

@@ -24,7 +24,7 @@ pub const SHUT: Cut = Cut {
 };
 
 // The one who goes behind all others placed at w.
-pub fn last_at(case: &Case, got: &Got, w: usize) -> Option<usize> {
+pub(crate) fn last_at(case: &Case, got: &Got, w: usize) -> Option<usize> {
     let mut last = None;
     for a in 0..5 {
         if got.of(a) == w {
@@ -41,7 +41,7 @@ pub fn last_at(case: &Case, got: &Got, w: usize) -> Option<usize> {
     last
 }
 
-pub fn cut_at(case: &Case, got: &Got, w: usize) -> Cut {
+pub(crate) fn cut_at(case: &Case, got: &Got, w: usize) -> Cut {
     if case.places_of(w) == 0 {
         return SHUT;
     }
@@ -73,7 +73,7 @@ fn reaches(case: &Case, got: &Got, w: usize, a: usize) -> bool {
 }
 
 // The first position of a's list whose cut is reached, or 255.
-pub fn first_reached(case: &Case, got: &Got, a: usize) -> usize {
+pub(crate) fn first_reached(case: &Case, got: &Got, a: usize) -> usize {
     for k in 0..4 {
         if let Some(w) = case.wish(a, k) {
             if reaches(case, got, w, a) {
@@ -85,6 +85,6 @@ pub fn first_reached(case: &Case, got: &Got, a: usize) -> usize {
 }
 
 // The position in a's list of what it got, or 255.
-pub fn place(case: &Case, got: &Got, a: usize) -> usize {
+pub(crate) fn place(case: &Case, got: &Got, a: usize) -> usize {
     case.position(a, got.of(a)).unwrap_or(255)
 }

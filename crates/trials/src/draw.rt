@@ -6,7 +6,7 @@ pub struct Draw {
 }
 
 impl Draw {
-    pub fn new(seed: u64) -> Draw {
+    pub(crate) fn new(seed: u64) -> Draw {
         let state = seed.wrapping_mul(0x9e37_79b9_7f4a_7c15)
             .wrapping_add(0x1234_5678_9abc_def1);
         Draw { state }
@@ -21,7 +21,7 @@ impl Draw {
     }
 
     // A number below n; 0 where n is 0.
-    pub fn below(&mut self, n: usize) -> usize {
+    pub(crate) fn below(&mut self, n: usize) -> usize {
         let x = self.next() as usize;
         if n == 0 { 0 } else { x % n }
     }

@@ -23,7 +23,7 @@ fn is_judged_well(case: &Case, got: &Got, a: usize, place: usize) -> bool {
 }
 
 // The same of every place that the list has, and of none.
-pub fn are_judged_well(case: &Case, got: &Got, a: usize) -> bool {
+pub(crate) fn are_judged_well(case: &Case, got: &Got, a: usize) -> bool {
     for place in 0..case.count_of(a) {
         if !is_judged_well(case, got, a, place) {
             return false;

@@ -4,7 +4,7 @@
 use crate::case::Case;
 use crate::draw::Draw;
 
-pub fn blank(applicants: usize, workshops: usize) -> Case {
+pub(crate) fn blank(applicants: usize, workshops: usize) -> Case {
     Case {
         applicants,
         workshops,
@@ -54,7 +54,7 @@ fn draw_lots(case: &mut Case, draw: &mut Draw) {
 }
 
 // Another list for one applicant: as many workshops as come up in the tries, none twice.
-pub fn draw_list(case: &mut Case, a: usize, tries: usize, draw: &mut Draw) {
+pub(crate) fn draw_list(case: &mut Case, a: usize, tries: usize, draw: &mut Draw) {
     case.clear_list(a);
     for _ in 0..tries {
         let w = draw.below(case.workshops);
@@ -105,7 +105,7 @@ fn crossed_case(size: usize, draw: &mut Draw) -> Case {
     case
 }
 
-pub fn draw_case(draw: &mut Draw) -> Case {
+pub(crate) fn draw_case(draw: &mut Draw) -> Case {
     let shape = draw.below(3);
     let applicants = draw.below(6).max(draw.below(6));
     let workshops = draw.below(4).max(draw.below(4)).min(3) + 1;
@@ -118,7 +118,7 @@ pub fn draw_case(draw: &mut Draw) -> Case {
 }
 
 // The round with two applicants in each other's place.
-pub fn swap_applicants(case: &mut Case, a: usize, b: usize) {
+pub(crate) fn swap_applicants(case: &mut Case, a: usize, b: usize) {
     let before = *case;
     swap_lots(case, a, b);
     copy_list(case, a, &before, b);
@@ -140,7 +140,7 @@ fn copy_list(case: &mut Case, a: usize, from: &Case, b: usize) {
 }
 
 // The round with the lots the other way round, whose highest was drawn first.
-pub fn turn_lots(case: &mut Case) {
+pub(crate) fn turn_lots(case: &mut Case) {
     for a in 0..5 {
         case.set_lot(a, 65535 - case.lot_of(a));
     }

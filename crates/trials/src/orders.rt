@@ -13,7 +13,7 @@ pub struct Ended {
 }
 
 impl Ended {
-    pub fn same(&self, other: &Ended) -> bool {
+    pub(crate) fn same(&self, other: &Ended) -> bool {
         for a in 0..5 {
             if self.got.of(a) != other.got.of(a) {
                 return false;
@@ -90,7 +90,7 @@ impl State {
 }
 
 // All who are turned down move on together; 20 steps are as many as there can be entries.
-pub fn together(case: &Case) -> Ended {
+pub(crate) fn together(case: &Case) -> Ended {
     let mut state = State { at: [0; 5] };
     for _ in 0..20 {
         state = state.step(case);
@@ -122,7 +122,7 @@ fn sit_down(case: &Case, got: &mut Got, w: usize, a: usize) {
     }
 }
 
-pub fn one_by_one(case: &Case, draw: &mut Draw) -> Ended {
+pub(crate) fn one_by_one(case: &Case, draw: &mut Draw) -> Ended {
     let mut got = Got::nothing();
     let mut asked = State { at: [0; 5] };
     let mut asks = 0usize;

@@ -26,7 +26,7 @@ pub struct Answer {
 }
 
 impl Answer {
-    pub fn cut(&self, w: usize) -> Cut {
+    pub(crate) fn cut(&self, w: usize) -> Cut {
         if w < 4 { self.cuts[w] } else { cut::OPEN }
     }
 }
@@ -171,7 +171,7 @@ fn read_and_answer(case: &Case, bytes: &[u8]) -> Result<Option<Answer>, Refusal>
 }
 
 // What the program says; none where it refuses the round, or where its numbers do not fit each other.
-pub fn settle(case: &Case) -> Option<Answer> {
+pub(crate) fn settle(case: &Case) -> Option<Answer> {
     let bytes = bytes::write(case);
     match read_and_answer(case, bytes.written()) {
         Ok(answer) => answer,

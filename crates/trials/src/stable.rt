@@ -52,12 +52,12 @@ fn none_blocks(case: &Case, got: &Got) -> bool {
     true
 }
 
-pub fn is_stable(case: &Case, got: &Got) -> bool {
+pub(crate) fn is_stable(case: &Case, got: &Got) -> bool {
     all_wanted(case, got) && all_within(case, got) && none_blocks(case, got)
 }
 
 // The number of all assignments of a round's applicants: each has one of the workshops, or none.
-pub fn assignments(case: &Case) -> usize {
+pub(crate) fn assignments(case: &Case) -> usize {
     let mut number = 1usize;
     for a in 0..5 {
         if a < case.applicants {
@@ -68,7 +68,7 @@ pub fn assignments(case: &Case) -> usize {
 }
 
 // The assignment with a number: its digits to the base of one more than there are workshops.
-pub fn assignment(case: &Case, number: usize) -> Got {
+pub(crate) fn assignment(case: &Case, number: usize) -> Got {
     let base = case.workshops.min(4) + 1;
     let mut got = Got::nothing();
     let mut rest = number;
@@ -83,7 +83,7 @@ pub fn assignment(case: &Case, number: usize) -> Got {
 }
 
 // Nobody has in `other` a dearer workshop than in `got`.
-pub fn none_dearer(case: &Case, got: &Got, other: &Got) -> bool {
+pub(crate) fn none_dearer(case: &Case, got: &Got, other: &Got) -> bool {
     for a in 0..5 {
         if case.dearer(a, other.of(a), got.of(a)) {
             return false;
@@ -93,7 +93,7 @@ pub fn none_dearer(case: &Case, got: &Got, other: &Got) -> bool {
 }
 
 // The same applicants are placed nowhere, and every workshop has the same number.
-pub fn same_left(got: &Got, other: &Got) -> bool {
+pub(crate) fn same_left(got: &Got, other: &Got) -> bool {
     for a in 0..5 {
         if (got.of(a) == NONE) != (other.of(a) == NONE) {
             return false;

@@ -36,7 +36,7 @@ pub struct Tally {
 }
 
 impl Tally {
-    pub fn new() -> Tally {
+    pub(crate) fn new() -> Tally {
         Tally {
             rounds: 0,
             several: 0,
@@ -236,7 +236,7 @@ fn sort_of_round(case: &Case, ended: &Ended, tally: &mut Tally) -> Result<(), &'
 }
 
 // All checks of one round; the name of the first that is not passed.
-pub fn trial(case: &Case, draw: &mut Draw, tally: &mut Tally) -> Result<(), &'static str> {
+pub(crate) fn trial(case: &Case, draw: &mut Draw, tally: &mut Tally) -> Result<(), &'static str> {
     let answer = answered(case)?;
     let ended = answer.ended;
     sort_of_round(case, &ended, tally)?;
@@ -254,7 +254,7 @@ pub fn trial(case: &Case, draw: &mut Draw, tally: &mut Tally) -> Result<(), &'st
 }
 
 // A line of the table of worked rounds: the program says what the table says, and passes all other checks.
-pub fn worked_trial(line: &str, draw: &mut Draw, tally: &mut Tally) -> Result<(), &'static str> {
+pub(crate) fn worked_trial(line: &str, draw: &mut Draw, tally: &mut Tally) -> Result<(), &'static str> {
     let worked = worked::read(line);
     passed(
         &mut tally.worked,

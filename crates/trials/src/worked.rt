@@ -78,7 +78,7 @@ impl Worked {
     }
 
     // Whether the answer is the table's.
-    pub fn says(&self, answer: &Answer) -> bool {
+    pub(crate) fn says(&self, answer: &Answer) -> bool {
         for a in 0..5 {
             if answer.ended.got.of(a) != self.got.of(a) {
                 return false;
@@ -89,7 +89,7 @@ impl Worked {
 }
 
 // A line of the table.
-pub fn read(line: &str) -> Worked {
+pub(crate) fn read(line: &str) -> Worked {
     let mut case = make::blank(0, 0);
     for a in 0..5 {
         case.set_lot(a, a as u16 + 1);
