@@ -2,7 +2,7 @@
 // judged, applicants ask to the end, and the printed text and all letters are made in memory.
 //
 //     plain FILE [LETTERS_DIR]   prints the text (a refused round: `refused 5 at 12`, status 1); writes 0000.letter, ...
-//     plain --time FILE K        K runs in memory: nanoseconds for each phase, mean and best
+//     plain --time FILE K        K runs in memory: for each phase its name and the nanoseconds of every run
 //
 // rustc --edition 2021 -C opt-level=3 main.rs
 use std::hint::black_box;
@@ -429,19 +429,16 @@ fn settle(bytes: &[u8]) -> Result<(Vec<u8>, Letters), Refusal> {
 
 struct Clock {
     name: &'static str,
-    sum: u128,
-    best: u128,
+    spent: Vec<u128>,
 }
 
 impl Clock {
     fn new(name: &'static str) -> Clock {
-        Clock { name, sum: 0, best: u128::MAX }
+        Clock { name, spent: Vec::new() }
     }
 
     fn add(&mut self, start: Instant) {
-        let spent = start.elapsed().as_nanos();
-        self.sum += spent;
-        self.best = self.best.min(spent);
+        self.spent.push(start.elapsed().as_nanos());
     }
 }
 
@@ -465,7 +462,11 @@ fn time(bytes: &[u8], runs: u32) -> Result<(), Refusal> {
         clocks[3].add(start);
     }
     for clock in &clocks {
-        println!("{} {} best {}", clock.name, clock.sum / runs.max(1) as u128, clock.best);
+        print!("{}", clock.name);
+        for nanos in &clock.spent {
+            print!(" {nanos}");
+        }
+        println!();
     }
     Ok(())
 }

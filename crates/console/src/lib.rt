@@ -1,5 +1,8 @@
 // What the two programs share: where their input comes from, how they tell a refusal, and how they end. What they print is made and
 // proved in the crate `office`; no contract can say what a program reads or prints.
+ghost use mathlib.Core.Path.{_≡_};
+ghost use mathlib.Core.Bool.{false};
+ghost use Rattle.std.specs.Results.{isOk};
 use layout::Refusal;
 use std::alloc::AllocError;
 use std::fs;
@@ -53,14 +56,18 @@ pub fn input(rt: &LibcRuntime, file: &str) -> Result<Vec<u8>, Failed> {
 }
 
 // Prints a refusal, alone, and fails.
-pub fn tell_refusal(rt: &LibcRuntime, refusal: Refusal) -> Result<(), Failed> {
+pub fn tell_refusal(rt: &LibcRuntime, refusal: Refusal) -> Result<(), Failed>
+    ensures { λ r. ⌜ isOk r ≡ false ⌝ }
+{
     let text = office::refusal_text(rt.alloc(), refusal)?;
     print!(rt, "{text}")?;
     Err(Failed::Told)
 }
 
-// Says what has not been said yet, and hands the result on.
-pub fn finish(rt: &LibcRuntime, done: Result<(), Failed>) -> Result<(), Failed> {
+// Says what has not been said yet, and hands the result on: a failure stays one.
+pub fn finish(rt: &LibcRuntime, done: Result<(), Failed>) -> Result<(), Failed>
+    ensures { λ r. ⌜ isOk r ≡ isOk done ⌝ }
+{
     if let Err(Failed::NoMemory) = done {
         eprintln!(rt, "out of memory")?;
     }

@@ -5,6 +5,7 @@ ghost use Prim.Native.Nat.{_≤_, _<_};
 ghost use lib.Dec.{eqb};
 ghost use lib.ListN.{getD};
 ghost use Rattle.layout.specs.Slices.{outcome};
+ghost use Rattle.layout.specs.Tables.{most-entries};
 ghost use Rattle.layout.specs.Bytes.{byte, word, first-of};
 ghost use Rattle.letters.specs.Letter.{count-in, place-at, entry-at, part-at, entry-in};
 ghost use Rattle.letters.specs.Faults.{head-fault, judged, listed-fault, end-fault, first-in, entry-told};
@@ -12,6 +13,7 @@ ghost use Rattle.letters.specs.Exact.{judged-bytes, Exact};
 use crate::entry::Entry;
 use crate::entry::read_entry;
 use crate::entry::word as number;
+use codec::MOST_ENTRIES;
 use cuts::reaches;
 use layout::Lot;
 use layout::Refusal;
@@ -61,7 +63,7 @@ fn read_head(bytes: &[u8]) -> Result<usize, Refusal>
         return Err(Refusal::Malformed(bytes.len()));
     }
     let count = bytes[4] as usize;
-    if count > 20 {
+    if count > MOST_ENTRIES as usize {
         return Err(Refusal::Malformed(4));
     }
     Ok(count)
@@ -70,7 +72,7 @@ fn read_head(bytes: &[u8]) -> Result<usize, Refusal>
 // The first entry whose cut is reached, once all entries are well formed.
 fn read_entries(bytes: &[u8], lot: Lot, count: usize) -> Result<usize, Refusal>
     requires { ⌜ count ≡ count-in (now bytes) ⌝ }
-    requires { ⌜ count ≤ 20 ⌝ }
+    requires { ⌜ count ≤ most-entries ⌝ }
     requires { ⌜ lot .0 ≡ word (now bytes) 2 ⌝ }
     ensures { λ r. ⌜ r ≡ outcome (first-of (listed-fault (now (bytes .entry))) (count-in (now (bytes .entry)))) (first-in (now (bytes .entry))) ⌝ }
 {
@@ -89,7 +91,7 @@ fn read_entries(bytes: &[u8], lot: Lot, count: usize) -> Result<usize, Refusal>
 
 // Entry j, whose workshop is not among those seen.
 fn read_listed(bytes: &[u8], j: usize, seen: &[bool; 256]) -> Result<Entry, Refusal>
-    requires { ⌜ j < 20 ⌝ }
+    requires { ⌜ j < most-entries ⌝ }
     ensures { λ r. ⌜ r ≡ outcome (judged (getD (now (seen .entry)) (byte (now (bytes .entry)) (entry-at j)) false) (now (bytes .entry)) j) (entry-in (part-at (now (bytes .entry)) j)) ⌝ }
 {
     let at = 5 + 8 * j;
@@ -115,7 +117,7 @@ fn earlier(first: usize, j: usize, found: bool) -> usize
 // The place, behind the entries, with nothing behind it.
 fn read_place(bytes: &[u8], count: usize) -> Result<usize, Refusal>
     requires { ⌜ count ≡ count-in (now bytes) ⌝ }
-    requires { ⌜ count ≤ 20 ⌝ }
+    requires { ⌜ count ≤ most-entries ⌝ }
     ensures { λ r. ⌜ r ≡ outcome (end-fault (now (bytes .entry))) (byte (now (bytes .entry)) (place-at (now (bytes .entry)))) ⌝ }
 {
     let at = 5 + 8 * count;
@@ -136,7 +138,7 @@ fn read_place(bytes: &[u8], count: usize) -> Result<usize, Refusal>
 pub fn entry_at(bytes: &[u8], j: usize) -> Option<Entry>
     ensures { λ r. ⌜ r ≡ entry-told (now (bytes .entry)) j ⌝ }
 {
-    if j >= 20 {
+    if j >= MOST_ENTRIES as usize {
         return None;
     }
     let at = 5 + 8 * j;

@@ -63,7 +63,7 @@ fn cut_from(kind: u8, points: u16, lot: u16) -> Cut
 }
 
 // A number of two bytes.
-pub fn word(low: u8, high: u8) -> u16
+pub(crate) fn word(low: u8, high: u8) -> u16
     ensures { λ r. ⌜ r ≡ low + 256 * high ⌝ }
 {
     low as u16 + 256 * (high as u16)

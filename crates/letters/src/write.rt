@@ -1,14 +1,16 @@
 // Writing the letters of a round that was asked to the end.
 ghost use mathlib.Core.Path.{_≡_};
 ghost use Prim.Native.Nat.{_+_, _*_, _≤_, _<_};
-ghost use lib.ListN.{length};
+ghost use lib.ListN.{length, take};
 ghost use Rattle.std.specs.Joined.{joined};
+ghost use Rattle.std.specs.Vec.{made};
 ghost use Rattle.std.specs.declared.option.Option.the-variants.{None};
 ghost use Rattle.layout.specs.Slices.{over, laid, outcome};
 ghost use Rattle.layout.specs.Tables.{applicants};
 ghost use Rattle.codec.specs.Rounds.{tables-of};
 ghost use Rattle.asking.specs.Ended.{no-room};
 ghost use Rattle.letters.specs.Letter.{head-bytes, entry-bytes, kind-of, cut-points, cut-lot};
+ghost use Rattle.letters.specs.Settled.{Settled, Accepted};
 ghost use Rattle.letters.specs.Written.{all-seats, entry-from, entries-from, letter-bytes, letter-length, letter-room, all-letters, all-length, letters-room};
 use crate::entry::Entry;
 use codec::Round;
@@ -31,7 +33,7 @@ pub fn letter_len(round: &Round, applicant: usize) -> usize
 }
 
 // Writes an applicant's letter to the front of out, and says how many bytes it has. rows are the rows of all list entries, results
-// and benches what asking to the end left.
+// and benches what asking to the end left; with these the checker accepts the letter.
 pub fn write_letter(
     round: &Round,
     rows: &[u32],
@@ -42,6 +44,7 @@ pub fn write_letter(
 ) -> Result<usize, Refusal>
     ensures told { λ r. ⌜ r ≡ outcome (letter-room (tables-of (now (round .entry))) (length (now (results .entry))) (length (now (benches .entry))) (length (now (rows .entry))) applicant (length (now (out .entry)))) (letter-length (tables-of (now (round .entry))) applicant) ⌝ }
     ensures written { λ r. ⌜ now (out .exit) ≡ laid r (letter-bytes (tables-of (now (round .entry))) (now (rows .entry)) (now (results .entry)) (now (benches .entry)) applicant) (now (out .entry)) ⌝ }
+    ensures accepted { λ r. ⌜ (Settled (tables-of (now (round .entry))) (now (rows .entry)) (now (results .entry)) (now (benches .entry)) → made r (λ n. Accepted (take n (now (out .exit))))) ⌝ }
 {
     if applicant >= round.lots.len() {
         return Err(Refusal::NoRoom(Lent::Results));

@@ -9,18 +9,20 @@ use lib.Dec.{eqb}
 use Rattle.std.proofs.shelf.Lists.{take-at, getD-past, length-append}
 use Rattle.std.proofs.shelf.Tests.{lt-ltb}
 use Rattle.layout.specs.Slices.{flat}
-use Rattle.layout.specs.Tables.{Tables, Proper, applicants, workshops, places-at}
-use Rattle.layout.proofs.Flats.{flat-more, length-flat, length-flat-mono, drop-flat}
+use Rattle.layout.specs.Tables.{Tables, Proper, applicants, workshops, places-at, list-length}
+use Rattle.layout.proofs.Flats.{length-table, flat-more, length-flat, length-flat-mono, drop-flat}
 use Rattle.layout.proofs.Offsets.{rises}
 use Rattle.round.specs.Market.{final}
-use Rattle.points.specs.Standing.{row-worth, market, rows-found}
+use Rattle.points.specs.Standing.{row-worth, market}
 use Rattle.bench.specs.Row.{after, after-all, empty-bench}
 use Rattle.bench.proofs.Laws.{length-after}
 use Rattle.asking.specs.Ended.{bench-of, bench-at, benches-at, benches-of}
 use Rattle.cuts.specs.Cuts.{cut-of-bench}
 use Rattle.cuts.specs.declared.Cut.the-variants.{Shut}
-use Rattle.letters.proofs.Writing.{letter-at, letter-at-more, length-letters}
-use Rattle.office.specs.Outcome.{results-of, cut-at, letter-of, letters-of, letter-told}
+use Rattle.letters.specs.Settled.{own-entry, own-letter}
+use Rattle.letters.proofs.Writing.{letter-at, length-encode-letter}
+use Rattle.cuts.specs.Promised.{cut-at}
+use Rattle.office.specs.Outcome.{letter-of, letters-of, letter-told}
 
 -- list k, among n lists one after the other; at is where it begins, and to where it ends
 pub flat-part : (f : ℕ → List ℕ) (n k at to : ℕ) → k < n → length (flat f k) ≡ at → at + length (f k) ≡ to →
@@ -42,14 +44,22 @@ module _ (t : Tables) where
   unfolding bench-at bench-of empty-bench
   length-bench-at s w = length-after-all _ _ _ ∙ length-replicate (places-at t w) _
 
+  length-benches-below : Proper t → (w : ℕ) → w ≤ workshops t → length (flat (bench-at t (final (market t))) w) ≡ getD (t .seats) w 0
+  length-benches-below proper w l =
+      length-flat (bench-at t (final (market t))) (λ k. getD (t .seats) k 0) w (proper .seated .0)
+      (λ k h. let up = proper .seated .1 k (omega arith) in omega (arith, length-bench-at (final (market t)) k))
+
+  pub length-benches : Proper t → length (benches-of t) ≡ getD (t .seats) (workshops t) 0
+  unfolding benches-of benches-at
+  length-benches proper = length-benches-below proper (workshops t) (omega arith)
+
   module _ (proper : Proper t) (w : ℕ) where
     pub bench-part : w < workshops t →
         (take (getD (t .seats) (w + 1) 0 - getD (t .seats) w 0) (drop (getD (t .seats) w 0) (benches-of t)) ≡ bench-at t (final (market t)) w)
         × (getD (t .seats) (w + 1) 0 ≤ length (benches-of t))
     unfolding benches-of benches-at
     bench-part l =
-        let begins = length-flat (bench-at t (final (market t))) (λ k. getD (t .seats) k 0) w (proper .seated .0)
-        (λ k h. let up = proper .seated .1 k (omega arith) in omega (arith, length-bench-at (final (market t)) k)) in
+        let begins = length-benches-below proper w (omega arith) in
         let up = proper .seated .1 w l in
         flat-part (bench-at t (final (market t))) (workshops t) w (getD (t .seats) w 0) (getD (t .seats) (w + 1) 0) l begins (omega (arith, length-bench-at (final (market t)) w))
 
@@ -61,15 +71,28 @@ module _ (t : Tables) where
         let e : length (bench-at t (final (market t)) w) ≡ 0 = omega (arith, length-bench-at (final (market t)) w) in
         rw e
 
-  module _ (proper : Proper t) (a : ℕ) (l : a < applicants t) where
-    pub letter-part :
+  length-letter-of : (a : ℕ) → length (letter-of t a) ≡ 6 + 8 * list-length t a
+  unfolding letter-of
+  length-letter-of a = omega (arith, length-encode-letter (own-letter t a), length-table (own-entry t a) (list-length t a))
+
+  module _ (proper : Proper t) where
+    letter-at-more : (a : ℕ) → a < applicants t → letter-at t (a + 1) ≡ letter-at t a + length (letter-of t a)
+    letter-at-more a l = omega (arith, length-letter-of a, proper .started .2 a l)
+
+    length-letters-below : (a : ℕ) → a ≤ applicants t → length (flat (letter-of t) a) ≡ letter-at t a
+    length-letters-below a l = length-flat (letter-of t) (letter-at t) a (omega (arith, proper .started .1)) (λ k h. letter-at-more k (omega arith))
+
+    pub length-letters : length (letters-of t) ≡ 6 * applicants t + 8 * length (t .entries)
+    unfolding letters-of
+    length-letters = omega (arith, length-letters-below (applicants t) (omega arith), proper .started .4)
+
+    pub letter-part : (a : ℕ) → a < applicants t →
         (take (letter-at t (a + 1) - letter-at t a) (drop (letter-at t a) (letters-of t)) ≡ letter-of t a)
         × (letter-at t (a + 1) ≤ length (letters-of t))
-    unfolding letters-of letter-of
-    letter-part =
-        let more = letter-at-more t (proper .started) (rows-found t) (results-of t) (benches-of t) a l in
-        flat-part (letter-of t) (applicants t) a (letter-at t a) (letter-at t (a + 1)) l
-        (length-letters t (proper .started) (rows-found t) (results-of t) (benches-of t) a (omega arith)) (sym more)
+    unfolding letters-of
+    letter-part a l =
+        let begins = length-letters-below a (omega arith) in
+        flat-part (letter-of t) (applicants t) a (letter-at t a) (letter-at t (a + 1)) l begins (sym (letter-at-more a l))
 
 -- The same where u, bs and ls are the round, the benches and the letters in slices, and n is how many workshops or applicants there are.
 module _ (t u : Tables) (proper : Proper t) (same : u ≡ t) where

@@ -6,3 +6,6 @@ pub mod Entries
 pub mod Laid
 pub mod Roomy
 pub mod Refills
+pub mod Promising
+pub mod OtherLists
+pub mod Leaving

@@ -1,28 +1,22 @@
--- What comes out of a round, as functions of its tables: what each applicant is told, the cuts, the letters. Definitions only.
+-- What comes out of a round, as functions of its tables: what each applicant is told, and the letters. Definitions only.
 use mathlib.Core.Bool.{cond}
 use mathlib.Core.List.{List, []}
 use Prim.Native.Nat.{ℕ}
 use lib.Dec.{ltb}
 use Rattle.layout.specs.Slices.{table, flat}
 use Rattle.layout.specs.Tables.{Tables, applicants}
-use Rattle.round.specs.Market.{final}
-use Rattle.points.specs.Standing.{market, rows-found}
-use Rattle.asking.specs.Ended.{told, bench-at, benches-of}
-use Rattle.cuts.specs.Cuts.{cut-of-bench}
-use Rattle.cuts.specs.declared.Cut.{Cut}
-use Rattle.letters.specs.Written.{letter-bytes}
+use Rattle.points.specs.Standing.{market}
+use Rattle.asking.specs.Ended.{told}
+use Rattle.letters.specs.Letter.{encode-letter}
+use Rattle.letters.specs.Settled.{own-letter}
 
 -- what each applicant is told: the position in its list of what it got, from 0, or 255 for nothing
 unfoldable pub results-of : Tables → List ℕ
 results-of t = table (told (market t)) (applicants t)
 
--- the cut of a workshop: that of its bench at the end
-unfoldable pub cut-at : Tables → ℕ → Cut
-cut-at t w = cut-of-bench t (bench-at t (final (market t)) w)
-
--- a's letter, and all letters one after the other
+-- the bytes of a's letter, and of all letters one after the other
 unfoldable pub letter-of : Tables → ℕ → List ℕ
-letter-of t a = letter-bytes t (rows-found t) (results-of t) (benches-of t) a
+letter-of t a = encode-letter (own-letter t a)
 
 unfoldable pub letters-of : Tables → List ℕ
 letters-of t = flat (letter-of t) (applicants t)

@@ -12,7 +12,7 @@ use Rattle.round.specs.Market.{Market, final, placed-at, got, asks, placed}
 use Rattle.points.specs.Standing.{market}
 use Rattle.cuts.specs.declared.Cut.{Cut}
 use Rattle.cuts.specs.declared.Cut.the-variants.{Open, Shut, Full}
-use Rattle.office.specs.Outcome.{cut-at}
+use Rattle.cuts.specs.Promised.{cut-at}
 
 abbrev pub newline : List ℕ
 newline = 10 ∷ []

@@ -7,7 +7,7 @@ ghost use Rattle.std.specs.Vec.{made};
 ghost use Rattle.layout.specs.Slices.{flat};
 ghost use Rattle.layout.specs.Tables.{applicants, workshops};
 ghost use Rattle.points.specs.Standing.{market};
-ghost use Rattle.office.specs.Outcome.{cut-at};
+ghost use Rattle.cuts.specs.Promised.{cut-at};
 ghost use Rattle.office.specs.Settling.{tables-settled};
 ghost use Rattle.office.specs.Text.{applicant-line, cut-line, text-of};
 use crate::lines::push_head;

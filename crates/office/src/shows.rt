@@ -1,9 +1,11 @@
 // What a settled round shows.
 ghost use mathlib.Core.Path.{_≡_};
+ghost use Rattle.layout.specs.Tables.{applicants as applicants-of};
 ghost use Rattle.codec.specs.Rounds.{tables-of};
 ghost use Rattle.round.specs.Market.{asks as asks-of, placed as placed-of};
 ghost use Rattle.points.specs.Standing.{market};
-ghost use Rattle.office.specs.Outcome.{results-of, cut-at, letter-told};
+ghost use Rattle.cuts.specs.Promised.{cut-at};
+ghost use Rattle.office.specs.Outcome.{results-of, letters-of, letter-told};
 ghost use Rattle.office.specs.Owned.{tables-owned};
 ghost use Rattle.office.specs.Settling.{tables-settled};
 use crate::owned::OwnedRound;
@@ -35,6 +37,13 @@ impl Settled {
         ensures { λ r. ⌜ tables-of r ≡ tables-settled (now (self .entry)) ⌝ }
     {
         self.held.view()
+    }
+
+    // How many applicants it has.
+    pub fn applicants(&self) -> usize
+        ensures { λ r. ⌜ r ≡ applicants-of (tables-settled (now (self .entry))) ⌝ }
+    {
+        self.held.lots.len()
     }
 
     // What each applicant is told: the position in its list of what it got, from 0, or 255 for nothing.
@@ -69,6 +78,13 @@ impl Settled {
         let from = round.seats[workshop] as usize;
         let to = round.seats[workshop + 1] as usize;
         cut_of(&self.benches.as_slice()[from..to], &round)
+    }
+
+    // All letters, one after the other, in the order of the applicants.
+    pub fn letters(&self) -> &[u8]
+        ensures { λ r. ⌜ now r ≡ letters-of (tables-settled (now (self .entry))) ⌝ }
+    {
+        self.letters.as_slice()
     }
 
     // The letter of an applicant; no bytes for a number that is none.

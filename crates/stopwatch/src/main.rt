@@ -1,5 +1,5 @@
-// Measures the office's work: settles the round of a file so many times, in memory, and prints the nanoseconds of the fastest turn and
-// of the whole. A turn is everything from the bytes to the printed text and all letters. For bench/run, which compares it with a
+// Measures the office's work: settles the round of a file so many times, in memory, and prints the nanoseconds of each turn.
+// A turn is everything from the bytes to the printed text and all letters. For bench/run, which compares it with a
 // plain Rust program; in the gate it runs without arguments and prints its usage.
 use console::Failed;
 use console::FailedFromAlloc;

@@ -22,5 +22,5 @@ loop-j-again c =
     let so-far = joined entry-bytes (entries-from t (c .args .rows .now) (c .args .benches .now) (c .args .start) j) in
     let len : length so-far ≡ 8 * j = length-joined-entries _ ∙ ap (λ (n : ℕ). 8 * n) (length-table f j) in
     let rest = take (length (c .loop-j .part) - 8 * j) (drop (8 * j) (c .loop-j .part)) in
-    let laid = over-part so-far (entry-bytes (f j)) (c .args .part .now) (c .loop-j .part) (c .put-entry .last .part) (8 * j) (c .loop-j .inv) len (c .put-entry .ensures ∙ ap (λ (e : Entry). over (entry-bytes e) rest) (c .entry-of .ensures)) in
+    let laid = over-part so-far (entry-bytes (f j)) (c .args .part .now) (c .loop-j .part) (c .put-entry .last .part) (8 * j) (c .loop-j .inv) len (c .put-entry .ensures ∙ ap (λ (e : Entry). over (entry-bytes e) rest) {y = f j} (c .entry-of .ensures)) in
     laid ∙ ap (λ (xs : List ℕ). over xs (c .args .part .now)) (sym (joined-table-more entry-bytes f j))

@@ -2,7 +2,7 @@ use mathlib.Core.Path.{_≡_}
 use mathlib.Core.List.{_++_}
 use Rattle.std.specs.Of.String.{string-bytes}
 use Rattle.layout.specs.Slices.{flat}
-use Rattle.office.specs.Outcome.{cut-at}
+use Rattle.cuts.specs.Promised.{cut-at}
 use Rattle.office.specs.Settling.{tables-settled}
 use Rattle.office.specs.Text.{cut-line}
 use Rattle.office.proofs.printing.push_cuts.Given as given

@@ -1,0 +1,5 @@
+use Rattle.office.proofs.Promising.{promised-read}
+use Rattle.office.proofs.laws.best_kept.Needs as need
+
+pub returns : need.returns
+returns c = λ b t small read. promised-read b t small read .best-kept
