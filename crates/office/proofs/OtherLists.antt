@@ -18,7 +18,7 @@ use Rattle.round.specs.Promise as promise
 use Rattle.round.specs.Market.{got}
 use Rattle.round.proofs.Promised as promised
 use Rattle.points.specs.Standing.{row-from, row-of, row-worth, worth, round-of, market}
-use Rattle.asking.proofs.Tabled.{length-lists, list-of-round, length-list}
+use Rattle.points.proofs.Theory.{round-applicants, round-list, length-list-at}
 use Rattle.asking.proofs.Proper.{round-proper}
 use Rattle.office.specs.Promises.{Other-list}
 use Rattle.office.proofs.Promising.{got-result}
@@ -92,7 +92,7 @@ module _ (t u : Tables) (pt : Proper t) (pu : Proper u) (a : ℕ) (l : a < appli
   pub no-list-gains : rank (list-at t a) (got (market t) a) ≤ rank (list-at t a) (got (market u) a)
   unfolding Given-truthful
   no-list-gains =
-      let n = length-lists t in
+      let n = round-applicants t pt in
       let self = round-other t t a (other-self t a) l in
       let own = subst (λ (r : Round). promise.Proper r) self (round-proper t pt) in
       let least = promised.truthful (round-of t) a (list-at t a) (list-at u a) (omega arith) own proper-other in
@@ -102,7 +102,7 @@ module _ (t u : Tables) (pt : Proper t) (pu : Proper u) (a : ℕ) (l : a < appli
   pub nobody-gains : list-length t a ≡ 0 → (c : ℕ) → c < applicants t → c ≢ a → rank (list-at t c) (got (market t) c) ≤ rank (list-at t c) (got (market u) c)
   unfolding More-applicants
   nobody-gains none c lc ne =
-      let n = length-lists t in
-      let empty = list-of-round t a l ∙ no-list (list-at t a) (length-list t pt a l ∙ none) in
+      let n = round-applicants t pt in
+      let empty = round-list t pt a l ∙ no-list (list-at t a) (length-list-at t pt a l ∙ none) in
       let least = promised.more-applicants (round-of t) c a (list-at u a) (round-proper t pt) proper-other (omega arith) (omega arith) ne empty in
-      in-words c (list-at t c) (subst (λ (x : List ℕ). rank x (result (round-of t) c) ≤ rank x (result (with-list (round-of t) a (list-at u a)) c)) (list-of-round t c lc) least)
+      in-words c (list-at t c) (subst (λ (x : List ℕ). rank x (result (round-of t) c) ≤ rank x (result (with-list (round-of t) a (list-at u a)) c)) (round-list t pt c lc) least)

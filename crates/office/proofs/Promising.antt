@@ -18,7 +18,7 @@ use Rattle.round.proofs.Promised as promised
 use Rattle.round.proofs.Theorems as theorems
 use Rattle.points.specs.Standing.{round-of, market}
 use Rattle.asking.specs.Ended.{bench-at}
-use Rattle.asking.proofs.Tabled.{length-lists, length-places, list-of-round}
+use Rattle.points.proofs.Theory.{round-applicants, round-workshops, round-list}
 use Rattle.asking.proofs.Proper.{round-proper, lawful}
 use Rattle.asking.proofs.Sums.{entries-of-market}
 use Rattle.asking.proofs.Fairness.{fair}
@@ -46,11 +46,11 @@ module _ (t : Tables) (proper : Proper t) where
   unfolding Given-best
   best-stable =
       let given = promised.best-stable (round-of t) (round-proper t proper) in
-      let n = length-lists t in (
+      let n = round-applicants t proper in (
         subst (λ (m : ℕ → ℕ). Stable (round-of t) m) got-result (given .0),
         λ m st a l.
             let least = given .1 m st a (omega arith) in
-            let dear = subst (λ (x : List ℕ). rank x (result (round-of t) a) ≤ rank x (m a)) (list-of-round t a l) least in
+            let dear = subst (λ (x : List ℕ). rank x (result (round-of t) a) ≤ rank x (m a)) (round-list t proper a l) least in
             subst (λ (g : ℕ → ℕ). rank (list-at t a) (g a) ≤ rank (list-at t a) (m a)) got-result dear,
       )
 
@@ -58,8 +58,8 @@ module _ (t : Tables) (proper : Proper t) where
   unfolding Given-left nowhere
   same-left m n sm sn =
       let left = promised.same-left (round-of t) m n (round-proper t proper) sm sn in
-      let many = length-lists t in
-      let all = length-places t in (
+      let many = round-applicants t proper in
+      let all = round-workshops t proper in (
         λ a l e. left .0 a (omega arith) (e ∙ sym all) ∙ all,
         λ w l. subst (λ (k : ℕ). given m w k ≡ given n w k) many (left .1 w (omega arith)),
       )
