@@ -1,5 +1,5 @@
 -- The list of a record, judged by its place: the same as judged by the applicant.
-use mathlib.Core.Path.{_≡_, refl, sym, ap, fun-ext}
+use mathlib.Core.Path.{_≡_, refl, ap, fun-ext}
 use mathlib.Core.Bool.{Bool, true, false, _||_}
 use mathlib.Core.List.{List}
 use Prim.Native.Nat.{ℕ, zero, suc, _+_, _≤_, _<_}
@@ -15,7 +15,7 @@ use Rattle.layout.specs.Slices.{or-else}
 use Rattle.layout.specs.Bytes.{byte, word, first-of, record-at, workshops-in, missing, refuse, entry-in, entry-seen, entry-fault, lot-in, lot-seen, record-fault}
 use Rattle.layout.specs.declared.Refusal.{Refusal}
 use Rattle.layout.specs.declared.Refusal.the-variants.{Short, LotTaken}
-use Rattle.codec.specs.Readers.{stands-in, entry-fault-at, list-fault-at}
+use Rattle.codec.specs.Readers.{stands-in, entry-fault-at, list-fault-at, record-fault-at}
 use Rattle.layout.proofs.Firsts.{first-of-at}
 use Rattle.layout.proofs.Offsets.{record-at-more}
 
@@ -44,24 +44,22 @@ module _ (b : List ℕ) (a : ℕ) where
       (or-else (refuse (lot-seen b (word b (record-at b a)) a) (LotTaken (record-at b a))) (list-fault-at b (workshops-in b) (record-at b a)))
   record-fault-is = rw entry-fault-is
 
-  -- what judges the record, where its lot is missing, taken or new
+  -- what judges the record, where its lot is missing and where it is there
   module _ (at : ℕ) (place : at ≡ record-at b a) where
     pub record-short : length b < at + 2 → record-fault b a ≡ Some (Short (length b))
     record-short l = rw (record-fault-is, ← place) grind (arith, tells)
 
-    pub record-taken : at + 2 ≤ length b → lot-seen b (word b at) a ≡ true → record-fault b a ≡ Some (LotTaken at)
-    record-taken l t = rw (record-fault-is, ← place) grind (arith, tells)
-
-    pub record-by-list : (m : ℕ) → m ≡ workshops-in b → at + 2 ≤ length b → lot-seen b (word b at) a ≡ false → record-fault b a ≡ list-fault-at b m at
-    record-by-list m e l t = rw (record-fault-is, ← place, e) grind (arith, tells)
+    pub record-by-place : (m : ℕ) (taken : Bool) → m ≡ workshops-in b → at + 2 ≤ length b → taken ≡ lot-seen b (word b at) a →
+        record-fault b a ≡ record-fault-at b m taken at
+    record-by-place m taken e l t = rw (record-fault-is, ← place, e, t) (grind (arith, tells))
 
     pub record-after : record-at b (a + 1) ≡ at + 3 + byte b (at + 2)
     record-after = rw place (record-at-more b a)
 
 -- the array of the lots seen: what it says of the lot at a place, before any applicant, and after one more
 pub lot-seen-is : (b : List ℕ) (a at lot : ℕ) (seen : List Bool) → lot ≡ word b at → lot < 65536 →
-    ((v : ℕ) → v < 65536 → getD seen v false ≡ lot-seen b v a) → lot-seen b (word b at) a ≡ getD seen lot false
-lot-seen-is b a at lot seen e l h = rw (← e) (sym (h lot l))
+    ((v : ℕ) → v < 65536 → getD seen v false ≡ lot-seen b v a) → getD seen lot false ≡ lot-seen b (word b at) a
+lot-seen-is b a at lot seen e l h = rw (← e) (h lot l)
 
 pub seen-none : (b : List ℕ) (v : ℕ) → v < 65536 → getD (replicate 65536 false) v false ≡ lot-seen b v 0
 unfolding lot-seen

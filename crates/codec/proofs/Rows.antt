@@ -8,7 +8,16 @@ use native.Mathlib.Omega.{arith}
 use lib.Dec.{eqb, ltb, leb}
 use Rattle.std.proofs.shelf.Ways.{tells}
 use Rattle.layout.specs.Bytes.{applicants-in, workshops-in, row-at, row-workshop-in, row-applicant-in, out-of-order, row-fault}
-use Rattle.codec.specs.Readers.{least-workshop, least-applicant, row-fault-at}
+use Rattle.codec.specs.Readers.{row-fault-at}
+
+-- where row i may stand at the earliest: after the row before it
+unfoldable pub least-workshop : List ℕ → ℕ → ℕ
+least-workshop b zero = 0
+least-workshop b (suc i) = row-workshop-in b i
+
+unfoldable pub least-applicant : List ℕ → ℕ → ℕ
+least-applicant b zero = 0
+least-applicant b (suc i) = row-applicant-in b i + 1
 
 module _ (b : List ℕ) where
   out-of-order-is : (i : ℕ) → out-of-order b i ≡

@@ -6,7 +6,7 @@ ghost use lib.ListN.{length};
 ghost use Rattle.std.specs.Vec.{made};
 ghost use Rattle.layout.specs.Slices.{outcome};
 ghost use Rattle.layout.specs.Bytes.{byte, word, first-of, head-fault, places-from, places-fault, applicants-in, workshops-in, record-at, record-fault, row-at, row-fault, fault, sizes-in};
-ghost use Rattle.codec.specs.Readers.{stands-in, list-fault-at, count-fault-at, row-fault-at};
+ghost use Rattle.codec.specs.Readers.{stands-in, list-fault-at, record-fault-at, count-fault-at, row-fault-at};
 use crate::bytes::byte_at;
 use crate::bytes::word_at;
 use crate::limits::MOST_APPLICANTS;
@@ -59,7 +59,7 @@ fn judge_head(bytes: &[u8]) -> Result<Head, Refusal>
 
 // The places of the workshops, a byte each. What stands behind them begins at the answer.
 fn judge_places(bytes: &[u8], workshops: usize) -> Result<usize, Refusal>
-    requires { ⌜ 4 ≤ length (now bytes) ⌝ }
+    requires { ⌜ places-from ≤ length (now bytes) ⌝ }
     ensures answer { λ r. ⌜ r ≡ outcome (first-of (places-fault (now (bytes .entry))) workshops) (places-from + workshops) ⌝ }
     ensures within { λ r. ⌜ made r (λ q. q ≤ length (now (bytes .entry))) ⌝ }
 {
@@ -111,6 +111,18 @@ fn judge_list(bytes: &[u8], at: usize, workshops: usize) -> Result<usize, Refusa
     Ok(at + 3 + count as usize)
 }
 
+// The record at `at`, whose lot is there and may be taken: the lot comes before the list.
+fn judge_record(bytes: &[u8], at: usize, taken: bool, workshops: usize) -> Result<usize, Refusal>
+    requires { ⌜ at + 2 ≤ length (now bytes) ⌝ }
+    ensures answer { λ r. ⌜ r ≡ outcome (record-fault-at (now (bytes .entry)) workshops taken at) (at + 3 + byte (now (bytes .entry)) (at + 2)) ⌝ }
+    ensures within { λ r. ⌜ made r (λ q. q ≤ length (now (bytes .entry))) ⌝ }
+{
+    if taken {
+        return Err(Refusal::LotTaken(at));
+    }
+    judge_list(bytes, at, workshops)
+}
+
 // The records of the applicants, which begin at `from`. What stands behind them begins at the answer.
 fn judge_records(
     bytes: &[u8],
@@ -130,14 +142,12 @@ fn judge_records(
         let Some(lot) = word_at(bytes, at) else {
             return Err(Refusal::Short(bytes.len()));
         };
-        if seen[lot as usize] {
-            return Err(Refusal::LotTaken(at));
-        }
-        seen[lot as usize] = true;
-        at = match judge_list(bytes, at, workshops) {
+        let lot = lot as usize;
+        at = match judge_record(bytes, at, seen[lot], workshops) {
             Ok(next) => next,
             Err(e) => return Err(e),
         };
+        seen[lot] = true;
     }
     Ok(at)
 }

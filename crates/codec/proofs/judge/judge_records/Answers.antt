@@ -7,7 +7,7 @@ use Rattle.std.proofs.shelf.Lists.{length-set, length-replicate}
 use Rattle.layout.specs.Bytes.{word, lot-in}
 use Rattle.layout.proofs.Firsts.{first-of-more}
 use Rattle.codec.proofs.Firsts.{first-of-zero, refused-at, got-there, not-there, fault-from-err, none-from-ok}
-use Rattle.codec.proofs.Lists.{record-short, record-taken, record-by-list, record-after, lot-seen-is, seen-none, seen-more}
+use Rattle.codec.proofs.Lists.{record-short, record-by-place, record-after, lot-seen-is, seen-none, seen-more}
 use Rattle.codec.proofs.judge.judge_records.Needs as need
 
 pub loop-a-holds : need.loop-a-holds
@@ -18,29 +18,21 @@ returns-in-rest c =
     let f = record-short _ _ _ (c .loop-a .inv .0) (not-there _ _ _ _ (c .in-rest .ensures tt)) in
     record { answer = refused-at _ _ _ _ _ (c .loop-a .inv .2) f (c .loop-a-test .taken); within = tt }
 
-pub returns-then-seen-lot : need.returns-then-seen-lot
-returns-then-seen-lot c =
-    let g = got-there _ _ _ _ _ (c .in-Some .ensures tt) in
-    let l : c .in-Some .lot < 65536 = omega arith in
-    let t = lot-seen-is _ _ _ _ _ (g .1) l (c .loop-a .inv .4) ∙ c .if-seen-lot .taken in
-    let f = record-taken _ _ _ (c .loop-a .inv .0) (g .0) t in
-    record { answer = refused-at _ _ _ _ _ (c .loop-a .inv .2) f (c .loop-a-test .taken); within = tt }
-
 pub returns-in-Err : need.returns-in-Err
 returns-in-Err c =
     let g = got-there _ _ _ _ _ (c .in-Some .ensures tt) in
     let l : c .in-Some .lot < 65536 = omega arith in
-    let t = lot-seen-is _ _ _ _ _ (g .1) l (c .loop-a .inv .4) ∙ c .if-seen-lot .left in
-    let f = record-by-list _ _ _ (c .loop-a .inv .0) _ (c .pre .size) (g .0) t ∙ fault-from-err _ _ _ (c .in-Err .ensures tt .answer) in
+    let t = lot-seen-is _ _ _ _ _ (g .1) l (c .loop-a .inv .4) in
+    let f = record-by-place _ _ _ (c .loop-a .inv .0) _ _ (c .pre .size) (g .0) t ∙ fault-from-err _ _ _ (c .in-Err .ensures tt .answer) in
     record { answer = refused-at _ _ _ _ _ (c .loop-a .inv .2) f (c .loop-a-test .taken); within = tt }
 
 pub loop-a-again : need.loop-a-again
 loop-a-again c =
     let g = got-there _ _ _ _ _ (c .in-Some .ensures tt) in
     let l : c .in-Some .lot < 65536 = omega arith in
-    let t = lot-seen-is _ _ _ _ _ (g .1) l (c .loop-a .inv .4) ∙ c .if-seen-lot .left in
+    let t = lot-seen-is _ _ _ _ _ (g .1) l (c .loop-a .inv .4) in
     let n = none-from-ok _ _ _ (c .in-Ok .ensures tt .answer) in
-    let f = record-by-list _ _ _ (c .loop-a .inv .0) _ (c .pre .size) (g .0) t ∙ n .0 in
+    let f = record-by-place _ _ _ (c .loop-a .inv .0) _ _ (c .pre .size) (g .0) t ∙ n .0 in
     let e : c .in-Some .lot ≡ lot-in (c .args .bytes .now) (c .loop-a .-a) = g .1 ∙ ap (λ x. word (c .args .bytes .now) x) (c .loop-a .inv .0) in (
       sym (n .1) ∙ sym (record-after _ _ _ (c .loop-a .inv .0)),
       c .in-Ok .ensures tt .within,

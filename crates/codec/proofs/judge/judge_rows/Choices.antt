@@ -4,7 +4,7 @@ use Prim.Native.Nat.{_≤_}
 use lib.ListN.{length}
 use Rattle.std.specs.declared.option.Option.the-variants.{None}
 use Rattle.layout.specs.Bytes.{first-of, row-at, row-fault}
-use Rattle.codec.specs.Readers.{least-workshop, least-applicant}
+use Rattle.codec.proofs.Rows.{least-workshop, least-applicant}
 use Rattle.codec.proofs.judge.judge_rows.Given as given
 
 abbrev pub Inv-loop-i : given.InvT-loop-i
