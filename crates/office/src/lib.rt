@@ -1,5 +1,6 @@
 // The whole of a round over owned memory: from its bytes to who is where, the cuts and the letters, and the printed texts.
 mod fault;
+mod laws;
 mod letter_words;
 mod lines;
 mod owned;
@@ -9,7 +10,6 @@ mod settled;
 mod settling;
 mod shows;
 mod texts;
-mod laws;
 mod wishes;
 
 pub use fault::Fault;

@@ -5,7 +5,7 @@ ghost use Rattle.codec.specs.Rounds.{tables-of};
 ghost use Rattle.round.specs.Market.{asks as asks-of, placed as placed-of};
 ghost use Rattle.points.specs.Standing.{market};
 ghost use Rattle.cuts.specs.Promised.{cut-at};
-ghost use Rattle.office.specs.Outcome.{results-of, letters-of, letter-told};
+ghost use Rattle.office.specs.Outcome.{results-of, letter-told};
 ghost use Rattle.office.specs.Owned.{tables-owned};
 ghost use Rattle.office.specs.Settling.{tables-settled};
 use crate::owned::OwnedRound;
@@ -33,7 +33,7 @@ impl OwnedRound {
 
 impl Settled {
     // The round that was settled.
-    pub fn round(&self) -> Round<'_>
+    pub(crate) fn round(&self) -> Round<'_>
         ensures { λ r. ⌜ tables-of r ≡ tables-settled (now (self .entry)) ⌝ }
     {
         self.held.view()
@@ -78,13 +78,6 @@ impl Settled {
         let from = round.seats[workshop] as usize;
         let to = round.seats[workshop + 1] as usize;
         cut_of(&self.benches.as_slice()[from..to], &round)
-    }
-
-    // All letters, one after the other, in the order of the applicants.
-    pub fn letters(&self) -> &[u8]
-        ensures { λ r. ⌜ now r ≡ letters-of (tables-settled (now (self .entry))) ⌝ }
-    {
-        self.letters.as_slice()
     }
 
     // The letter of an applicant; no bytes for a number that is none.

@@ -254,7 +254,11 @@ pub(crate) fn trial(case: &Case, draw: &mut Draw, tally: &mut Tally) -> Result<(
 }
 
 // A line of the table of worked rounds: the program says what the table says, and passes all other checks.
-pub(crate) fn worked_trial(line: &str, draw: &mut Draw, tally: &mut Tally) -> Result<(), &'static str> {
+pub(crate) fn worked_trial(
+    line: &str,
+    draw: &mut Draw,
+    tally: &mut Tally,
+) -> Result<(), &'static str> {
     let worked = worked::read(line);
     passed(
         &mut tally.worked,
