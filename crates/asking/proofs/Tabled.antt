@@ -16,6 +16,14 @@ module _ (t : Tables) where
   unfolding round-of
   length-lists = length-table _ _
 
+  pub length-places : length (round-of t .places) ≡ workshops t
+  unfolding round-of
+  length-places = length-table _ _
+
+  pub list-of-round : (a : ℕ) → a < applicants t → getD (round-of t .lists) a [] ≡ list-at t a
+  unfolding round-of
+  list-of-round a l = getD-table (list-at t) _ a [] l
+
   pub places-of-round : (w : ℕ) → w < workshops t → getD (round-of t .places) w 0 ≡ places-at t w
   unfolding round-of
   places-of-round w l = getD-table (places-at t) _ w 0 l
@@ -29,8 +37,8 @@ module _ (t : Tables) where
   market-n = length-lists
 
   pub market-m : market t .m ≡ workshops t
-  unfolding market market-of round-of
-  market-m = length-table _ _
+  unfolding market market-of
+  market-m = length-places
 
 module _ (t : Tables) (ok : Proper t) (a : ℕ) (l : a < applicants t) where
   pub starts-within : getD (t .starts) (a + 1) 0 ≤ length (t .entries)
