@@ -3,7 +3,7 @@
 use console::Failed;
 use console::FailedFromAlloc;
 use console::FailedFromIo;
-use office::Fault;
+use texts::Fault;
 use std::env;
 
 const USAGE: &str = "usage: check_letter [FILE]
@@ -17,7 +17,7 @@ alone, and the status is 1.
 // The letter in words, or why it is refused.
 fn check_one(rt: &LibcRuntime, file: &str) -> Result<(), Failed> {
     let bytes = console::input(rt, file)?;
-    match office::explain(rt.alloc(), &bytes) {
+    match texts::explain(rt.alloc(), &bytes) {
         Ok(text) => {
             print!(rt, "{text}")?;
             Ok(())

@@ -59,7 +59,7 @@ pub fn input(rt: &LibcRuntime, file: &str) -> Result<Vec<u8>, Failed> {
 pub fn tell_refusal(rt: &LibcRuntime, refusal: Refusal) -> Result<(), Failed>
     ensures { λ r. ⌜ isOk r ≡ false ⌝ }
 {
-    let text = office::refusal_text(rt.alloc(), refusal)?;
+    let text = texts::refusal_text(rt.alloc(), refusal)?;
     print!(rt, "{text}")?;
     Err(Failed::Told)
 }

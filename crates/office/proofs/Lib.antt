@@ -1,8 +1,6 @@
 -- Lemmas for the whole program.
 pub mod Told
 pub mod Holding
-pub mod Appends
-pub mod Entries
 pub mod Laid
 pub mod Roomy
 pub mod Refills

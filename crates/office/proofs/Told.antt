@@ -14,7 +14,7 @@ use Rattle.points.specs.Standing.{market}
 use Rattle.asking.specs.Ended.{told}
 use Rattle.asking.proofs.Tabled.{starts-within, market-len, market-entry}
 use Rattle.office.specs.Outcome.{results-of}
-use Rattle.office.specs.Text.{applicant-line, placed-line, none-line}
+use Rattle.texts.specs.Text.{applicant-line, placed-line, none-line}
 
 module _ (t : Tables) (proper : Proper t) (a : ℕ) (l : a < applicants t) where
   list-few : list-length t a ≤ 20

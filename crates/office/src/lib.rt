@@ -1,18 +1,12 @@
-// The whole of a round over owned memory: from its bytes to who is where, the cuts and the letters, and the printed texts.
-mod fault;
+// The whole of a round over owned memory: from its bytes to who is where, the cuts and the letters, and what is printed of it.
 mod laws;
-mod letter_words;
-mod lines;
 mod owned;
 mod printing;
 mod reading;
 mod settled;
 mod settling;
 mod shows;
-mod texts;
-mod wishes;
 
-pub use fault::Fault;
 pub use laws::any_order;
 pub use laws::asking_ends;
 pub use laws::best_kept;
@@ -23,8 +17,6 @@ pub use laws::letters_right;
 pub use laws::one_more;
 pub use laws::same_left;
 pub use laws::truthful;
-pub use letter_words::explain;
 pub use printing::report;
 pub use settled::Settled;
 pub use settling::settle;
-pub use texts::refusal_text;

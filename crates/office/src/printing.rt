@@ -9,12 +9,12 @@ ghost use Rattle.layout.specs.Tables.{applicants, workshops};
 ghost use Rattle.points.specs.Standing.{market};
 ghost use Rattle.cuts.specs.Promised.{cut-at};
 ghost use Rattle.office.specs.Settling.{tables-settled};
-ghost use Rattle.office.specs.Text.{applicant-line, cut-line, text-of};
-use crate::lines::push_head;
-use crate::lines::push_none;
-use crate::lines::push_placed;
+ghost use Rattle.texts.specs.Text.{applicant-line, cut-line, text-of};
+use texts::push_head;
+use texts::push_none;
+use texts::push_placed;
 use crate::settled::Settled;
-use crate::wishes::push_cut;
+use texts::push_cut;
 use std::alloc::AllocError;
 use std::alloc::Global;
 

@@ -3,7 +3,7 @@
 use console::Failed;
 use console::FailedFromAlloc;
 use console::FailedFromIo;
-use office::Fault;
+use texts::Fault;
 use office::Settled;
 use std::alloc::AllocError;
 use std::alloc::Global;

@@ -4,7 +4,7 @@
 use console::Failed;
 use console::FailedFromAlloc;
 use console::FailedFromIo;
-use office::Fault;
+use texts::Fault;
 use std::env;
 use std::time::Instant;
 

@@ -1,4 +1,4 @@
-use Rattle.office.proofs.Appends.{lines-none, lines-more}
+use Rattle.texts.proofs.Appends.{lines-none, lines-more}
 use Rattle.office.proofs.printing.push_applicants.Needs as need
 
 pub loop-a-holds : need.loop-a-holds

@@ -4,7 +4,7 @@ use Rattle.std.specs.Of.String.{string-bytes}
 use Rattle.layout.specs.Slices.{flat}
 use Rattle.points.specs.Standing.{market}
 use Rattle.office.specs.Settling.{tables-settled}
-use Rattle.office.specs.Text.{applicant-line}
+use Rattle.texts.specs.Text.{applicant-line}
 use Rattle.office.proofs.printing.push_applicants.Given as given
 
 abbrev pub Inv-loop-a : given.InvT-loop-a

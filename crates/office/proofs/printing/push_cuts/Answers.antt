@@ -2,8 +2,8 @@ use mathlib.Core.Path.{ap, _∙_}
 use mathlib.Core.List.{_++_}
 use Rattle.std.specs.Of.String.{string-bytes}
 use Rattle.cuts.specs.declared.Cut.{Cut}
-use Rattle.office.specs.Text.{cut-line}
-use Rattle.office.proofs.Appends.{lines-none, lines-more}
+use Rattle.texts.specs.Text.{cut-line}
+use Rattle.texts.proofs.Appends.{lines-none, lines-more}
 use Rattle.office.proofs.printing.push_cuts.Needs as need
 
 pub loop-w-holds : need.loop-w-holds

@@ -4,7 +4,7 @@ use Rattle.std.specs.Of.String.{string-bytes}
 use Rattle.layout.specs.Slices.{flat}
 use Rattle.cuts.specs.Promised.{cut-at}
 use Rattle.office.specs.Settling.{tables-settled}
-use Rattle.office.specs.Text.{cut-line}
+use Rattle.texts.specs.Text.{cut-line}
 use Rattle.office.proofs.printing.push_cuts.Given as given
 
 abbrev pub Inv-loop-w : given.InvT-loop-w

@@ -1,6 +1,6 @@
 use mathlib.Core.Path.{ap₂}
-use Rattle.office.specs.Text.{head-line, text-of}
-use Rattle.office.proofs.Appends.{three-parts}
+use Rattle.texts.specs.Text.{head-line, text-of}
+use Rattle.texts.proofs.Appends.{three-parts}
 use Rattle.office.proofs.printing.report.Needs as need
 
 pub returns : need.returns

@@ -1,6 +1,0 @@
-use Rattle.office.specs.Text.{none-line}
-use Rattle.office.proofs.lines.push_none.Needs as need
-
-pub returns-in-Ok : need.returns-in-Ok
-unfolding none-line
-returns-in-Ok c = c .in-Ok .ensures tt .bytes

@@ -1,6 +1,0 @@
-use Rattle.office.specs.Text.{placed-line}
-use Rattle.office.proofs.lines.push_placed.Needs as need
-
-pub returns-in-Ok : need.returns-in-Ok
-unfolding placed-line
-returns-in-Ok c = c .in-Ok .ensures tt .bytes

@@ -1,8 +1,0 @@
-use borrow.Author.Needs.{needs}
-use mathlib.Core.List.{append-assoc}
-use Rattle.office.specs.Text.{cut-line}
-use Rattle.office.proofs.wishes.push_cut.Needs as need
-
-pub returns : need.returns
-unfolding cut-line
-returns c = search (needs, append-assoc)

@@ -1,8 +1,0 @@
-use borrow.Author.Needs.{needs}
-use mathlib.Core.List.{append-assoc}
-use Rattle.office.specs.Words.{wish-line}
-use Rattle.office.proofs.wishes.push_wish.Needs as need
-
-pub returns : need.returns
-unfolding wish-line
-returns c = search (needs, append-assoc)

@@ -1,0 +1,3 @@
+-- Lemmas for texts that are put together line by line.
+pub mod Appends
+pub mod Entries
