@@ -1,6 +1,9 @@
 // Letters that are accepted and letters that are refused, with the number and the place worked out by hand.
 #[cfg(test)]
 mod tests {
+    use layout::Refusal;
+    use layout::RefusalDebug;
+    use layout::RefusalPartialEq;
     use letters::check_letter;
     use std::test::*;
 
