@@ -1,4 +1,5 @@
 // The printed texts, byte for byte: lines of a round's report, a letter in words, a refusal. And why nothing came out.
+mod digits;
 mod fault;
 mod letter_words;
 mod lines;

@@ -5,6 +5,8 @@ ghost use Rattle.std.specs.Of.String.{string-bytes};
 ghost use Rattle.std.specs.Vec.{made};
 ghost use Rattle.texts.specs.Text.{full-words, cut-words, cut-line};
 ghost use Rattle.texts.specs.Words.{whose-line, listed-words, reached-words, wish-line, got-line};
+use crate::digits::push_decimal;
+use crate::digits::push_numbered;
 use cuts::Cut;
 use letters::Entry;
 use std::alloc::AllocError;
@@ -24,20 +26,17 @@ fn push_cut_words(text: &mut String, cut: Cut) -> Result<(), AllocError>
 fn push_full(text: &mut String, points: u16, lot: u16) -> Result<(), AllocError>
     ensures { λ r. ⌜ made r (λ _. string-bytes (now (text .exit)) ≡ string-bytes (now (text .entry)) ++ full-words points lot) ⌝ }
 {
-    match write!(text, "{points} lot {lot}") {
-        Ok(()) => Ok(()),
-        Err(_) => Err(AllocError),
-    }
+    push_decimal(text, points as usize)?;
+    push_numbered(text, " lot ", lot as usize)?;
+    Ok(())
 }
 
 // The cut of a workshop.
 pub fn push_cut(text: &mut String, workshop: usize, cut: Cut) -> Result<(), AllocError>
     ensures { λ r. ⌜ made r (λ _. string-bytes (now (text .exit)) ≡ string-bytes (now (text .entry)) ++ cut-line workshop cut) ⌝ }
 {
-    match write!(text, "cut {workshop} ") {
-        Ok(()) => {}
-        Err(_) => return Err(AllocError),
-    }
+    push_numbered(text, "cut ", workshop)?;
+    text.push_str(" ")?;
     push_cut_words(text, cut)?;
     text.push_str("\n")?;
     Ok(())

@@ -1,6 +1,8 @@
+use borrow.Author.Needs.{needs}
+use mathlib.Core.List.{append-assoc}
 use Rattle.texts.specs.Text.{placed-line}
 use Rattle.texts.proofs.lines.push_placed.Needs as need
 
-pub returns-in-Ok : need.returns-in-Ok
+pub returns : need.returns
 unfolding placed-line
-returns-in-Ok c = c .in-Ok .ensures tt .bytes
+returns c = search (needs, append-assoc)

@@ -1,6 +1,8 @@
+use borrow.Author.Needs.{needs}
+use mathlib.Core.List.{append-assoc}
 use Rattle.texts.specs.Text.{full-words}
 use Rattle.texts.proofs.wishes.push_full.Needs as need
 
-pub returns-in-Ok : need.returns-in-Ok
+pub returns : need.returns
 unfolding full-words
-returns-in-Ok c = c .in-Ok .ensures tt .bytes
+returns c = search (needs, append-assoc)
