@@ -19,10 +19,6 @@ use Rattle.codec.specs.Readers.{stands-in, entry-fault-at, list-fault-at, reco
 use Rattle.layout.proofs.Firsts.{first-of-at}
 use Rattle.layout.proofs.Offsets.{record-at-more}
 
-pub stands-in-more : (b : List ℕ) («from» w j : ℕ) → stands-in b «from» w (j + 1) ≡ (eqb (byte b («from» + j)) w || stands-in b «from» w j)
-unfolding stands-in
-stands-in-more b «from» w j = rw add-one
-
 -- the count is there and no more than the most, so the first entry at fault is the list's fault
 pub list-refused : (b : List ℕ) (m at j : ℕ) (e : Refusal) → at + 3 ≤ length b → byte b (at + 2) ≤ 20 → j < byte b (at + 2) →
     first-of (entry-fault-at b m at) j ≡ None → entry-fault-at b m at j ≡ Some e → list-fault-at b m at ≡ Some e
@@ -56,6 +52,15 @@ module _ (b : List ℕ) (a : ℕ) where
     pub record-after : record-at b (a + 1) ≡ at + 3 + byte b (at + 2)
     record-after = rw place (record-at-more b a)
 
+-- an array of n flags that says f, and one flag more raised
+flag-more : (n x : ℕ) (seen : List Bool) (f : ℕ → Bool) → length seen ≡ n → x < n → ((v : ℕ) → v < n → getD seen v false ≡ f v) →
+    (v : ℕ) → v < n → getD (set seen x true) v false ≡ (eqb x v || f v)
+flag-more n x seen f m l h v k =
+    let old = h v k in
+    let w = getD-set-same seen x true false in
+    let o = getD-set-other seen x v true false in
+    let s = cases-eq v x in grind (arith, tells)
+
 -- the array of the lots seen: what it says of the lot at a place, before any applicant, and after one more
 pub lot-seen-is : (b : List ℕ) (a at lot : ℕ) (seen : List Bool) → lot ≡ word b at → lot < 65536 →
     ((v : ℕ) → v < 65536 → getD seen v false ≡ lot-seen b v a) → getD seen lot false ≡ lot-seen b (word b at) a
@@ -68,8 +73,15 @@ seen-none b v l = getD-replicate 65536 v false false l
 pub seen-more : (b : List ℕ) (a lot : ℕ) (seen : List Bool) → length seen ≡ 65536 → lot ≡ lot-in b a → lot < 65536 →
     ((v : ℕ) → v < 65536 → getD seen v false ≡ lot-seen b v a) → (v : ℕ) → v < 65536 → getD (set seen lot true) v false ≡ lot-seen b v (a + 1)
 unfolding lot-seen
-seen-more b a lot seen n e l h v k =
-    let old = h v k in
-    let w = getD-set-same seen lot true false in
-    let o = getD-set-other seen lot v true false in
-    let s = cases-eq v lot in rw add-one grind (arith, tells)
+seen-more b a lot seen n e l h v k = let s = flag-more 65536 lot seen (λ u. lot-seen b u a) n l h v k in rw (add-one a) (cc)
+
+-- the array of the entries seen of the list that begins at a place, likewise
+module _ (b : List ℕ) («from» : ℕ) where
+  pub stands-none : (v : ℕ) → v < 256 → getD (replicate 256 false) v false ≡ stands-in b «from» v 0
+  unfolding stands-in
+  stands-none v l = getD-replicate 256 v false false l
+
+  pub stands-more : (j w : ℕ) (seen : List Bool) → length seen ≡ 256 → w ≡ byte b («from» + j) → w < 256 →
+      ((v : ℕ) → v < 256 → getD seen v false ≡ stands-in b «from» v j) → (v : ℕ) → v < 256 → getD (set seen w true) v false ≡ stands-in b «from» v (j + 1)
+  unfolding stands-in
+  stands-more j w seen n e l h v k = let s = flag-more 256 w seen (λ u. stands-in b «from» u j) n l h v k in rw (add-one j) (cc)

@@ -6,7 +6,7 @@ ghost use lib.ListN.{length};
 ghost use Rattle.std.specs.Vec.{made};
 ghost use Rattle.layout.specs.Slices.{outcome};
 ghost use Rattle.layout.specs.Bytes.{byte, word, first-of, head-fault, places-from, places-fault, applicants-in, workshops-in, record-at, record-fault, row-at, row-fault, fault, sizes-in};
-ghost use Rattle.codec.specs.Readers.{stands-in, list-fault-at, record-fault-at, count-fault-at, row-fault-at};
+ghost use Rattle.codec.specs.Readers.{list-fault-at, record-fault-at, count-fault-at, row-fault-at};
 use crate::bytes::byte_at;
 use crate::bytes::word_at;
 use crate::limits::MOST_APPLICANTS;
@@ -74,21 +74,8 @@ fn judge_places(bytes: &[u8], workshops: usize) -> Result<usize, Refusal>
     Ok(PLACES_FROM + workshops)
 }
 
-// Whether w is one of the `count` bytes from `from` on.
-fn stands_in(bytes: &[u8], from: usize, count: usize, w: u8) -> bool
-    requires { ⌜ from + count ≤ length (now bytes) ⌝ }
-    ensures { λ r. ⌜ r ≡ stands-in (now (bytes .entry)) from w count ⌝ }
-{
-    let mut found = false;
-    for j in 0..count {
-        if bytes[from + j] == w {
-            found = true;
-        }
-    }
-    found
-}
-
-// The count and the list of the record at `at`, whose lot is there. What stands behind the record begins at the answer.
+// The count and the list of the record at `at`, whose lot is there. What stands behind the record begins at the answer. A flag for each
+// byte says whether it stands in the list so far, so that each entry is read once.
 fn judge_list(bytes: &[u8], at: usize, workshops: usize) -> Result<usize, Refusal>
     requires { ⌜ at + 2 ≤ length (now bytes) ⌝ }
     ensures answer { λ r. ⌜ r ≡ outcome (list-fault-at (now (bytes .entry)) workshops at) (at + 3 + byte (now (bytes .entry)) (at + 2)) ⌝ }
@@ -100,13 +87,16 @@ fn judge_list(bytes: &[u8], at: usize, workshops: usize) -> Result<usize, Refusa
     if count > MOST_ENTRIES {
         return Err(Refusal::LongList(at + 2));
     }
+    let mut seen = [false; 256];
     for j in 0..count as usize {
         let Some(entry) = byte_at(bytes, at + 3 + j) else {
             return Err(Refusal::Short(bytes.len()));
         };
-        if entry as usize >= workshops || stands_in(bytes, at + 3, j, entry) {
+        let entry = entry as usize;
+        if entry >= workshops || seen[entry] {
             return Err(Refusal::BadEntry(at + 3 + j));
         }
+        seen[entry] = true;
     }
     Ok(at + 3 + count as usize)
 }
