@@ -1,12 +1,14 @@
 -- Steps of writing letters: one more piece laid behind those that lie there, one entry more, and the lengths.
 use mathlib.Core.Path.{_≡_, refl, sym, ap, _∙_}
 use mathlib.Core.List.{List, [], _∷_, _++_, append-assoc}
+use mathlib.Core.Logic.{_≢_}
 use Prim.Native.Nat.{ℕ, _+_, _-_, _*_, _<_, _≤_}
 use native.Mathlib.Omega.{arith}
 use lib.ListN.{length, getD, set, take, drop}
+use borrow.Author.Count.{below-more}
 use borrow.Rule.Slice.PartMut.{putMid}
 use Rattle.std.specs.Joined.{joined}
-use Rattle.std.proofs.shelf.Lists.{append-nil, take-rest, take-at, drop-at, drop-drop, drop-all, drop-more, set-at, length-drop, length-append, length-push, joined-more}
+use Rattle.std.proofs.shelf.Lists.{append-nil, take-rest, take-at, drop-at, drop-drop, drop-all, drop-more, set-at, getD-set-same, getD-set-other, length-drop, length-append, length-push, joined-more}
 use Rattle.std.proofs.shelf.Ways.{tells}
 use Rattle.std.specs.declared.option.Option.the-variants.{None}
 use Rattle.layout.specs.Slices.{table, flat, over}
@@ -47,6 +49,14 @@ letter-laid head body old first then at y e l g k h =
     ap (λ (z : List ℕ). set z at y) (over-part head body old first then 5 e l g)
     ∙ over-push (head ++ body) old at y (omega (arith, length-append head body)) h
     ∙ ap (λ (z : List ℕ). over z old) (append-assoc head body (y ∷ []))
+
+-- one more place of a list is filled in
+pub filled-more : {X : Type 0} (f : ℕ → X) (xs : List X) (i : ℕ) (x d : X) → i < length xs → x ≡ f i →
+    ((k : ℕ) → k < i → getD xs k d ≡ f k) → (k : ℕ) → k < i + 1 → getD (set xs i x) k d ≡ f k
+filled-more f xs i x d l e below =
+    below-more (λ k. getD (set xs i x) k d ≡ f k) i
+    (λ k h. let ne : k ≢ i = omega arith in getD-set-other xs i k x d ne ∙ below k h)
+    (getD-set-same xs i x d l ∙ e)
 
 -- one entry more
 pub joined-table-more : {X : Type 0} (f : X → List ℕ) (g : ℕ → X) (j : ℕ) → joined f (table g (j + 1)) ≡ joined f (table g j) ++ f (g j)

@@ -1,7 +1,8 @@
 -- The letters of a round, from its tables and from the lists that asking leaves: each entry's row, the results, the benches. Total
 -- functions of the lists, whatever they hold. Definitions only.
+use mathlib.Core.Path.{_≡_}
 use mathlib.Core.List.{List}
-use Prim.Native.Nat.{ℕ, _+_, _*_, _%_}
+use Prim.Native.Nat.{ℕ, _+_, _*_, _%_, _<_}
 use lib.Dec.{ltb, leb}
 use lib.ListN.{length, getD, take, drop}
 use Rattle.std.specs.declared.option.Option.{Option}
@@ -14,6 +15,8 @@ use Rattle.layout.specs.declared.Lent.the-variants.{Results, Letters}
 use Rattle.points.specs.Standing.{points-of-row}
 use Rattle.asking.specs.Ended.{no-room}
 use Rattle.cuts.specs.Cuts.{cut-of-bench}
+use Rattle.cuts.specs.declared.Cut.{Cut}
+use Rattle.cuts.specs.declared.Cut.the-variants.{Open}
 use Rattle.letters.specs.Letter.{Letter, encode-letter}
 use Rattle.letters.specs.declared.entry.Entry.{Entry}
 
@@ -24,6 +27,10 @@ bench-in t benches w = take (places-at t w) (drop (getD (t .seats) w 0) benches)
 -- the number of all seats
 abbrev pub all-seats : Tables → ℕ
 all-seats t = getD (t .seats) (workshops t) 0
+
+-- a list has each workshop's cut at its number
+abbrev pub Cuts-told : Tables → List ℕ → List Cut → Type 0
+Cuts-told t benches cuts = (w : ℕ) → w < workshops t → getD cuts w Open ≡ cut-of-bench t (bench-in t benches w)
 
 -- what a letter says of entry k, among the entries of all lists
 abbrev pub entry-from : Tables → List ℕ → List ℕ → ℕ → Entry

@@ -11,7 +11,7 @@ ghost use Rattle.codec.specs.Rounds.{tables-of};
 ghost use Rattle.asking.specs.Ended.{no-room};
 ghost use Rattle.letters.specs.Letter.{head-bytes, entry-bytes, kind-of, cut-points, cut-lot};
 ghost use Rattle.letters.specs.Settled.{Settled, Accepted};
-ghost use Rattle.letters.specs.Written.{all-seats, entry-from, entries-from, letter-bytes, letter-length, letter-room, all-letters, all-length, letters-room};
+ghost use Rattle.letters.specs.Written.{all-seats, Cuts-told, entry-from, entries-from, letter-bytes, letter-length, letter-room, all-letters, all-length, letters-room};
 use crate::entry::Entry;
 use codec::Round;
 use cuts::Cut;
@@ -56,7 +56,15 @@ pub fn write_letter(
     if out.len() < len {
         return Err(Refusal::NoRoom(Lent::Letters));
     }
-    put_letter(round, rows, results, benches, applicant, out);
+    put_letter(
+        round,
+        rows,
+        results,
+        benches,
+        &all_cuts(round, benches),
+        applicant,
+        out,
+    );
     Ok(len)
 }
 
@@ -78,7 +86,14 @@ pub fn write_letters(
     if out.len() < len {
         return Err(Refusal::NoRoom(Lent::Letters));
     }
-    put_letters(round, rows, results, benches, out);
+    put_letters(
+        round,
+        rows,
+        results,
+        benches,
+        &all_cuts(round, benches),
+        out,
+    );
     Ok(len)
 }
 
@@ -137,21 +152,33 @@ fn put_head(applicant: u16, lot: u16, count: u8, part: &mut [u8])
     part[4] = count;
 }
 
-// What a letter says of entry k, among the entries of all lists.
-fn entry_of(round: &Round, rows: &[u32], benches: &[u32], k: usize) -> Entry
+// The cuts of all workshops, worked out once for the many entries that name them.
+fn all_cuts(round: &Round, benches: &[u32]) -> [Cut; 256]
+    requires { ⌜ all-seats (tables-of (now round)) ≤ length (now benches) ⌝ }
+    ensures { λ r. ⌜ Cuts-told (tables-of (now (round .entry))) (now (benches .entry)) r ⌝ }
+{
+    let mut cuts = [Cut::Open; 256];
+    for w in 0..round.seats.len() - 1 {
+        let from = round.seats[w] as usize;
+        let to = round.seats[w + 1] as usize;
+        cuts[w] = cut_of(&benches[from..to], round);
+    }
+    cuts
+}
+
+// What a letter says of entry k, among the entries of all lists. The benches are those of which the cuts were worked out: here and
+// below they stand for what the cuts mean.
+fn entry_of(round: &Round, rows: &[u32], benches: &[u32], cuts: &[Cut; 256], k: usize) -> Entry
     requires { ⌜ k < length (now (now round .entries)) ⌝ }
     requires { ⌜ length (now (now round .entries)) ≤ length (now rows) ⌝ }
-    requires { ⌜ all-seats (tables-of (now round)) ≤ length (now benches) ⌝ }
+    requires { ⌜ Cuts-told (tables-of (now round)) (now benches) (now cuts) ⌝ }
     ensures { λ r. ⌜ r ≡ entry-from (tables-of (now (round .entry))) (now (rows .entry)) (now (benches .entry)) k ⌝ }
 {
     let workshop = round.entries[k];
-    let w = workshop as usize;
-    let from = round.seats[w] as usize;
-    let to = round.seats[w + 1] as usize;
     Entry {
         workshop: workshop as u8,
         points: points_of(round, rows[k]),
-        cut: cut_of(&benches[from..to], round),
+        cut: cuts[workshop as usize],
     }
 }
 
@@ -160,19 +187,20 @@ fn put_entries(
     round: &Round,
     rows: &[u32],
     benches: &[u32],
+    cuts: &[Cut; 256],
     start: usize,
     count: usize,
     part: &mut [u8],
 )
     requires { ⌜ start + count ≤ length (now (now round .entries)) ⌝ }
     requires { ⌜ length (now (now round .entries)) ≤ length (now rows) ⌝ }
-    requires { ⌜ all-seats (tables-of (now round)) ≤ length (now benches) ⌝ }
+    requires { ⌜ Cuts-told (tables-of (now round)) (now benches) (now cuts) ⌝ }
     requires { ⌜ 8 * count ≤ length (now part) ⌝ }
     ensures { λ _. ⌜ now (part .exit) ≡ over (joined entry-bytes (entries-from (tables-of (now (round .entry))) (now (rows .entry)) (now (benches .entry)) start count)) (now (part .entry)) ⌝ }
 {
     for j in 0..count {
         put_entry(
-            entry_of(round, rows, benches, start + j),
+            entry_of(round, rows, benches, cuts, start + j),
             &mut part[8 * j..],
         );
     }
@@ -184,29 +212,39 @@ fn put_letter(
     rows: &[u32],
     results: &[u16],
     benches: &[u32],
+    cuts: &[Cut; 256],
     applicant: usize,
     part: &mut [u8],
 )
     requires { ⌜ applicant < applicants (tables-of (now round)) ⌝ }
     requires { ⌜ no-room (tables-of (now round)) (length (now results)) (length (now benches)) (length (now rows)) ≡ None ⌝ }
     requires { ⌜ letter-length (tables-of (now round)) applicant ≤ length (now part) ⌝ }
+    requires { ⌜ Cuts-told (tables-of (now round)) (now benches) (now cuts) ⌝ }
     ensures { λ _. ⌜ now (part .exit) ≡ over (letter-bytes (tables-of (now (round .entry))) (now (rows .entry)) (now (results .entry)) (now (benches .entry)) applicant) (now (part .entry)) ⌝ }
 {
     let start = round.starts[applicant] as usize;
     let count = round.starts[applicant + 1] as usize - start;
     put_head(applicant as u16, round.lots[applicant], count as u8, part);
-    put_entries(round, rows, benches, start, count, &mut part[5..]);
+    put_entries(round, rows, benches, cuts, start, count, &mut part[5..]);
     part[5 + 8 * count] = (results[applicant] % 256) as u8;
 }
 
 // Lays all letters over the front of a part.
-fn put_letters(round: &Round, rows: &[u32], results: &[u16], benches: &[u32], part: &mut [u8])
+fn put_letters(
+    round: &Round,
+    rows: &[u32],
+    results: &[u16],
+    benches: &[u32],
+    cuts: &[Cut; 256],
+    part: &mut [u8],
+)
     requires { ⌜ no-room (tables-of (now round)) (length (now results)) (length (now benches)) (length (now rows)) ≡ None ⌝ }
     requires { ⌜ all-length (tables-of (now round)) ≤ length (now part) ⌝ }
+    requires { ⌜ Cuts-told (tables-of (now round)) (now benches) (now cuts) ⌝ }
     ensures { λ _. ⌜ now (part .exit) ≡ over (all-letters (tables-of (now (round .entry))) (now (rows .entry)) (now (results .entry)) (now (benches .entry))) (now (part .entry)) ⌝ }
 {
     for a in 0..round.lots.len() {
         let at = 6 * a + 8 * (round.starts[a] as usize);
-        put_letter(round, rows, results, benches, a, &mut part[at..]);
+        put_letter(round, rows, results, benches, cuts, a, &mut part[at..]);
     }
 }

@@ -1,16 +1,18 @@
--- A workshop's seats lie within all seats.
-use native.Mathlib.Omega.{arith}
-use Prim.Native.Nat.{_+_}
-use lib.ListN.{length, getD}
-use Rattle.layout.specs.Tables.{workshops}
+-- The cut read at the workshop's number is that of its bench.
+use mathlib.Core.Path.{ap, _∙_}
+use Prim.Native.Nat.{ℕ}
+use lib.ListN.{getD}
 use Rattle.codec.specs.Rounds.{tables-of}
-use Rattle.layout.proofs.Offsets.{rises}
+use Rattle.points.specs.Standing.{points-of-row}
+use Rattle.cuts.specs.declared.Cut.{Cut}
+use Rattle.cuts.specs.declared.Cut.the-variants.{Open}
+use Rattle.letters.specs.declared.entry.Entry.{Entry}
 use Rattle.letters.proofs.write.entry_of.Needs as need
 
-pub part-cut-of-end : need.part-cut-of-end
-part-cut-of-end c =
+pub returns : need.returns
+returns c =
     let round = c .args .round .now in
     let w = getD (round .entries .now) (c .args .k) 0 in
-    let named = round .named (c .args .k) (c .pre .0) in
-    let within = rises (λ v. getD (round .seats .now) v 0) (workshops (tables-of round)) (round .seated .1) (w + 1) (omega arith) in
-    omega arith
+    let entry : ℕ → Cut → Entry = λ n cut. record { workshop = w; points = record { 0 = n }; cut = cut } in
+    ap (λ (n : ℕ). entry n (getD (c .args .cuts .now) w Open)) (c .points-of .ensures)
+    ∙ ap (entry (points-of-row (tables-of round) (getD (c .args .rows .now) (c .args .k) 0))) (c .pre .2 w (round .named (c .args .k) (c .pre .0)))

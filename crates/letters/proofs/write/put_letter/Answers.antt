@@ -22,7 +22,7 @@ put-entries-requires c κs =
     let there = room-there (tables-of round) _ _ _ (c .pre .1) in
     let end = rises (λ a. getD (round .starts .now) a 0) (length (round .lots .now)) (round .started .2) (c .args .applicant + 1) (omega arith) in
     let up = round .started .2 (c .args .applicant) (c .pre .0) in
-    (omega (arith, round .started .4), there .2, there .1, omega (arith, length-rest (c .put-head .last .part) 5, c .put-head .kept .part, c .pre .2))
+    (omega (arith, round .started .4), there .2, c .pre .3, omega (arith, length-rest (c .put-head .last .part) 5, c .put-head .kept .part, c .pre .2))
 
 pub returns : need.returns
 unfolding encode-letter

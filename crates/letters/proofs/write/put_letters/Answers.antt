@@ -27,7 +27,7 @@ put-letter-requires c κs =
     let t = tables-of (c .args .round .now) in
     let a = c .loop-a .a in
     let within = letter-within t (c .args .round .now .started) (c .args .rows .now) (c .args .results .now) (c .args .benches .now) a (c .loop-a-test .taken) in
-    (c .loop-a-test .taken, c .pre .0, omega (arith, length-rest (c .loop-a .part) (letter-at t a), c .pre .1))
+    (c .loop-a-test .taken, c .pre .0, omega (arith, length-rest (c .loop-a .part) (letter-at t a), c .pre .1), c .pre .2)
 
 pub loop-a-again : need.loop-a-again
 loop-a-again c =
