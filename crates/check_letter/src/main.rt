@@ -3,8 +3,8 @@
 use console::Failed;
 use console::FailedFromAlloc;
 use console::FailedFromIo;
-use texts::Fault;
 use std::env;
+use texts::Fault;
 
 const USAGE: &str = "usage: check_letter [FILE]
 

@@ -10,13 +10,13 @@ ghost use Rattle.points.specs.Standing.{market};
 ghost use Rattle.cuts.specs.Promised.{cut-at};
 ghost use Rattle.office.specs.Settling.{tables-settled};
 ghost use Rattle.texts.specs.Text.{applicant-line, cut-line, text-of};
+use crate::settled::Settled;
+use std::alloc::AllocError;
+use std::alloc::Global;
+use texts::push_cut;
 use texts::push_head;
 use texts::push_none;
 use texts::push_placed;
-use crate::settled::Settled;
-use texts::push_cut;
-use std::alloc::AllocError;
-use std::alloc::Global;
 
 // All that is printed of a settled round.
 pub fn report(heap: Global, settled: &Settled) -> Result<String, AllocError>

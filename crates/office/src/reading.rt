@@ -9,7 +9,6 @@ ghost use Rattle.layout.specs.Tables.{Proper};
 ghost use Rattle.texts.specs.Faults.{Faulty};
 ghost use Rattle.office.specs.Owned.{tables-owned};
 ghost use Rattle.office.specs.Sheets.{Largest, fronts-of};
-use texts::Fault;
 use crate::owned::OwnedRound;
 use codec::MOST_APPLICANTS;
 use codec::MOST_ENTRIES;
@@ -18,6 +17,7 @@ use codec::MOST_WORKSHOPS;
 use layout::Sizes;
 use std::alloc::AllocError;
 use std::alloc::Global;
+use texts::Fault;
 
 // Memory for the tables of a round.
 #[derive(Drop)]

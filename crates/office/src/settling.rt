@@ -12,7 +12,6 @@ ghost use Rattle.office.specs.Outcome.{letters-of};
 ghost use Rattle.office.specs.Owned.{tables-owned};
 ghost use Rattle.office.specs.Promises.{Promised};
 ghost use Rattle.office.specs.Settling.{tables-settled, Left};
-use texts::Fault;
 use crate::owned::OwnedRound;
 use crate::reading::read_owned;
 use crate::settled::Settled;
@@ -20,6 +19,7 @@ use asking::Outcome;
 use codec::Round;
 use std::alloc::AllocError;
 use std::alloc::Global;
+use texts::Fault;
 
 // Reads a round, gives out the places, and writes the letters; or says why the bytes are no round. Where memory runs out it says so,
 // and no more.

@@ -3,12 +3,12 @@
 use console::Failed;
 use console::FailedFromAlloc;
 use console::FailedFromIo;
-use texts::Fault;
 use office::Settled;
 use std::alloc::AllocError;
 use std::alloc::Global;
 use std::env;
 use std::fs;
+use texts::Fault;
 
 const USAGE: &str = "usage: run_round [FILE] [LETTERS_DIR]
 

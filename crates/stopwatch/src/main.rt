@@ -4,9 +4,9 @@
 use console::Failed;
 use console::FailedFromAlloc;
 use console::FailedFromIo;
-use texts::Fault;
 use std::env;
 use std::time::Instant;
+use texts::Fault;
 
 const USAGE: &str = "usage: stopwatch FILE TURNS
 
