@@ -1,5 +1,5 @@
 // The program that checks one letter alone: it needs nothing but the letter. What it prints is made and proved in the crate
-// `office`; here are only arguments, files and printing.
+// `texts`; here are only arguments, files and printing.
 use console::Failed;
 use console::FailedFromAlloc;
 use console::FailedFromIo;

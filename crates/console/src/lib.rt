@@ -1,5 +1,5 @@
 // What the two programs share: where their input comes from, how they tell a refusal, and how they end. What they print is made and
-// proved in the crate `office`; no contract can say what a program reads or prints.
+// proved in the crates `texts` and `office`; no contract can say what a program reads or prints.
 ghost use mathlib.Core.Path.{_≡_};
 ghost use mathlib.Core.Bool.{false};
 ghost use Rattle.std.specs.Results.{isOk};
