@@ -1,4 +1,6 @@
 // Deferred acceptance: applicants ask one after the other until nobody is turned down any more.
+#![tactic(auto)]
+
 ghost use Rattle.std.specs.Prelude.{◌≡◌, ℕ, ◌<◌, ◌≤◌, length, take, drop, slice_index};
 ghost use Rattle.layout.specs.Slices.{table, over, laid, outcome};
 ghost use Rattle.layout.specs.Tables.{applicants, workshops, list_length};

@@ -1,4 +1,6 @@
 // A workshop's bench: the best of those who asked, as many as it has places.
+#![tactic(auto)]
+
 ghost use Rattle.std.specs.Prelude.{◌≡◌, if◌then◌else◌, nat_eq};
 ghost use Rattle.codec.specs.Rounds.{tables_of};
 ghost use Rattle.points.specs.Standing.{row_worth, no_row};

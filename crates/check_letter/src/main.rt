@@ -1,5 +1,7 @@
 // The program that checks one letter alone: it needs nothing but the letter. What it prints is made and proved in the crate
 // `texts`; here are only arguments, files and printing.
+#![tactic(auto)]
+
 use console::Failed;
 use std::env;
 use texts::Fault;

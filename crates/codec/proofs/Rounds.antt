@@ -1,6 +1,6 @@
--- A round is proper: its type says so. And what its type says, of tables that are the same as proper ones.
+-- A round is proper: its type says so. And tables that are the same as proper ones are proper.
 use Rattle.std.proofs.Common.{◌≡◌}
-use Rattle.layout.specs.Tables.{Tables, Proper, Limited, Seated, Started, Named, Distinct, Drawn, Apart, Sheeted, Rowed, Sorted}
+use Rattle.layout.specs.Tables.{Tables, Proper}
 use Rattle.codec.specs.Rounds.{tables_of}
 use Rattle.codec.specs.declared.tables.Round.{Round}
 
@@ -19,8 +19,6 @@ proper_round r =
       sorted = r.sorted;
     }
 
--- what a round owes
-pub parts_of_proper : (t u : Tables) → u ≡ t → Proper t →
-    Limited u × (Seated u × (Started u × (Named u × (Distinct u × (Drawn u × (Apart u × (Sheeted u × (Rowed u × (Sorted u × Unit {0})))))))))
-parts_of_proper t u same p =
-    rw same (p.limited, (p.seated, (p.started, (p.named, (p.distinct, (p.drawn, (p.apart, (p.sheeted, (p.rowed, (p.sorted, tt))))))))))
+-- tables that are the same as proper ones are proper
+pub proper_like : (t u : Tables) → u ≡ t → Proper t → Proper u
+proper_like t u same p = rw same p

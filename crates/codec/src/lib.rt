@@ -1,6 +1,8 @@
 // Reading and writing the bytes of a round: `measure` says what to lend, `check` and `read` judge the bytes, `read` fills lent slices
 // with the tables, `Round` is the view of tables that are a round, and `write` writes it out again. What the bytes mean stands in the
 // specifications of `layout`.
+#![tactic(auto)]
+
 mod bytes;
 mod fill;
 mod judge;

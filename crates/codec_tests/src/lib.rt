@@ -1,4 +1,6 @@
 // Rounds that are refused, with the number and the place worked out by hand, and one round that is taken, read, viewed and written.
+#![tactic(auto)]
+
 ghost use Rattle.std.specs.Prelude.{◌<◌, ◌≤◌};
 
 #[cfg(test)]

@@ -1,5 +1,7 @@
 // What the programs share: where their input comes from, how they tell a round's result or a refusal, and how they end. What they print
 // is made and proved in the crates `texts` and `office`; no contract can say what a program reads or prints.
+#![tactic(auto)]
+
 ghost use Rattle.std.specs.Prelude.{◌≡◌, false, is_ok, IfOk, Ok};
 ghost use Rattle.layout.specs.Bytes.{decode};
 ghost use Rattle.office.specs.Settling.{tables_settled};

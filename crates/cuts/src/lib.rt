@@ -1,4 +1,6 @@
 // Cuts: what an applicant needs to get into a workshop, read off the workshop's bench, and whether somebody reaches it.
+#![tactic(auto)]
+
 ghost use Rattle.std.specs.Prelude.{◌≡◌};
 ghost use Rattle.codec.specs.Rounds.{tables_of};
 ghost use Rattle.cuts.specs.Cuts.{cut_of_bench, reached};

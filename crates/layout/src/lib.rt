@@ -1,5 +1,7 @@
 // The words of the format: points, lots, the sizes of a round, and why something is refused. Code that reads and writes stands in
 // the crate above; what the bytes mean stands in specs/.
+#![tactic(auto)]
+
 ghost use Rattle.std.specs.Prelude.{◌≡◌};
 ghost use Rattle.layout.specs.Refusals.{number_of, place_of};
 

@@ -1,5 +1,7 @@
 // Tables of cases for the comparison by points and lots and for benches, in a crate of their own so that the crates they test are
 // not proved twice.
+#![tactic(auto)]
+
 use bench::Answer;
 use codec::Round;
 

@@ -1,4 +1,6 @@
 // Letters that are accepted and letters that are refused, with the number and the place worked out by hand.
+#![tactic(auto)]
+
 #[cfg(test)]
 mod tests {
     use layout::Refusal;

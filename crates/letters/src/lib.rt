@@ -1,4 +1,6 @@
 // Letters: what the office tells each applicant, as bytes, and the checker that reads one alone.
+#![tactic(auto)]
+
 mod check;
 mod entry;
 mod laws;

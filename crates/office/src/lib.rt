@@ -1,4 +1,6 @@
 // The whole of a round over owned memory: from its bytes to who is where, the cuts and the letters, and what is printed of it.
+#![tactic(auto)]
+
 mod laws;
 mod owned;
 mod printing;

@@ -1,4 +1,6 @@
 // Points and lots: who goes ahead of whom, and each list entry's row.
+#![tactic(auto)]
+
 ghost use Rattle.std.specs.Prelude.{◌≡◌, ltb, if◌then◌else◌, nat_lt};
 ghost use Rattle.round.specs.ByPoints.{worth_of};
 ghost use Rattle.codec.specs.Rounds.{tables_of};

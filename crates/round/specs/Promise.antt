@@ -70,7 +70,7 @@ Cut r m cs =
     (p : ℕ) → p < length r.places →
     ((given m p (length r.lists) < slice_index r.places p) × (slice_index cs p ≡ 0))
     ⊎ ((given m p (length r.lists) ≡ slice_index r.places p) × ((b : ℕ) → b < length r.lists → m b ≡ p → slice_index cs p ≤ point r p b)
-    × ((b : ℕ) × (b < length r.lists) × (m b ≡ p) × (point r p b ≡ slice_index cs p)) ⊎ (slice_index r.places p ≡ 0))
+    × (((b : ℕ) × (b < length r.lists) × (m b ≡ p) × (point r p b ≡ slice_index cs p)) ⊎ (slice_index r.places p ≡ 0)))
 
 -- from the published cuts and its own points an applicant reads its place: the dearest programme whose cut it reaches
 unfoldable pub Readable : Type 0

@@ -1,6 +1,8 @@
 // What holds of every round, each theorem on the contract of a function. The definitions and statements stand in specs/: Places and
 // Promise (a round, what is promised), Market and Laws (the theory, for every way of keeping), ByPoints (points and lots as one),
 // Office, Cuts and Rounds (more promises, cuts, the worked rounds).
+#![tactic(auto)]
+
 ghost use Rattle.std.specs.Prelude.{◌≡◌};
 ghost use Rattle.round.specs.Laws.{SameEnd, EndClosed, FewAsks, EndStable, EndDearest, SameNumbers, OneMore, NotAllGain, NoGain};
 ghost use Rattle.round.specs.Places.{keep};

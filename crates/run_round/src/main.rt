@@ -1,5 +1,7 @@
 // The office's program: reads a round, prints its result, and writes the letters where a folder for them is named.
 // What it prints and writes is made and proved in the crate `office`; here are only arguments, files and printing.
+#![tactic(auto)]
+
 use console::Failed;
 use office::Settled;
 use std::alloc::{AllocError, Global};

@@ -1,6 +1,8 @@
 // Measures the office's work: settles the round of a file so many times, in memory, and prints the nanoseconds of each turn.
 // A turn is everything from the bytes to the printed text and all letters. For bench/run, which compares it with a
 // plain Rust program; in the gate it runs without arguments and prints its usage.
+#![tactic(auto)]
+
 use console::Failed;
 use std::env;
 use std::time::Instant;

@@ -1,4 +1,6 @@
 // The printed texts, byte for byte: lines of a round's report, a letter in words, a refusal. And why nothing came out.
+#![tactic(auto)]
+
 mod digits;
 mod fault;
 mod letter_words;

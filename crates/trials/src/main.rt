@@ -1,4 +1,6 @@
 // Random rounds beside a search through all assignments, other orders of asking, other lists, and the worked rounds.
+#![tactic(auto)]
+
 mod bytes;
 mod case;
 mod cut;

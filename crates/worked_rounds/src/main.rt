@@ -1,5 +1,7 @@
 // Runs the rounds of several files one after the other: what `run_round` prints of each, and how many of its letters `check_letter`
 // would accept. In the gate it runs the worked rounds, and what it prints is held to what was written down for them by hand.
+#![tactic(auto)]
+
 use console::Failed;
 use office::Settled;
 use std::alloc::Global;

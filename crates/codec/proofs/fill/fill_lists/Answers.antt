@@ -12,28 +12,28 @@ pub loop-a-init : goal.loop-a-init
 unfolding start_of flat
 loop-a-init c = (c.requires.place, refl, omega arith, refl, refl, refl)
 
-pub overflow-add-count : goal.overflow-add-count
-overflow-add-count c = omega (arith, record_within _ c.requires.clean _ _ c.requires.many c.loop-a-test.true _ c.loop-a.invariant.0)
+pub overflow_add-count : goal.overflow_add-count
+overflow_add-count c = omega (arith, record_within _ c.requires.clean _ _ c.requires.many c.loop-a-test.true _ c.loop-a.invariant.0)
 
 pub bounds-bytes-at : goal.bounds-bytes-at
 bounds-bytes-at c = omega (arith, record_within _ c.requires.clean _ _ c.requires.many c.loop-a-test.true _ c.loop-a.invariant.0)
 
-pub word-in-requires : goal.word-in-requires
-word-in-requires c = omega (arith, record_within _ c.requires.clean _ _ c.requires.many c.loop-a-test.true _ c.loop-a.invariant.0)
+pub word_in-requires : goal.word_in-requires
+word_in-requires c = omega (arith, record_within _ c.requires.clean _ _ c.requires.many c.loop-a-test.true _ c.loop-a.invariant.0)
 
-pub overflow-add-at : goal.overflow-add-at
-overflow-add-at c = omega (arith, record_within _ c.requires.clean _ _ c.requires.many c.loop-a-test.true _ c.loop-a.invariant.0)
+pub overflow_add-at : goal.overflow_add-at
+overflow_add-at c = omega (arith, record_within _ c.requires.clean _ _ c.requires.many c.loop-a-test.true _ c.loop-a.invariant.0)
 
-pub fill-list-requires : goal.fill-list-requires
-fill-list-requires c =
+pub fill_list-requires : goal.fill_list-requires
+fill_list-requires c =
     let b = c.args.bytes.now in
     record {
       there = record_within b c.requires.clean _ _ c.requires.many c.loop-a-test.true _ c.loop-a.invariant.0;
       room = omega (arith, start_within b c.requires.clean _ _ c.requires.many c.loop-a-test.true _ c.loop-a.invariant.0);
     }
 
-pub overflow-add-at-in-loop-a-2 : goal.overflow-add-at-in-loop-a-2
-overflow-add-at-in-loop-a-2 c = omega (arith, record_within _ c.requires.clean _ _ c.requires.many c.loop-a-test.true _ c.loop-a.invariant.0)
+pub overflow_add-at-in-loop-a-2 : goal.overflow_add-at-in-loop-a-2
+overflow_add-at-in-loop-a-2 c = omega (arith, record_within _ c.requires.clean _ _ c.requires.many c.loop-a-test.true _ c.loop-a.invariant.0)
 
 pub loop-a-preserved : goal.loop-a-preserved
 loop-a-preserved c =
@@ -46,9 +46,9 @@ loop-a-preserved c =
       omega arith,
       omega (arith, start_of_more b a),
       omega arith,
-      over_table_more (lot_in b) a _ _ _ v.3 (c.word-in.ensures ∙ ap (λ (x : ℕ). word b x) v.0) (omega arith),
+      over_table_more (lot_in b) a _ _ _ v.3 (c.word_in.ensures ∙ ap (λ (x : ℕ). word b x) v.0) (omega arith),
       over_table_more (start_of b) a _ _ _ v.4 v.1 (omega arith),
-      entries_more b c.requires.clean a _ c.requires.many c.loop-a-test.true _ v.0 _ _ _ _ v.1 v.5 c.fill-list.ensures,
+      entries_more b c.requires.clean a _ c.requires.many c.loop-a-test.true _ v.0 _ _ _ _ v.1 v.5 c.fill_list.ensures,
     )
 
 pub returns : goal.returns

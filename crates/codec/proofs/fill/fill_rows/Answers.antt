@@ -12,8 +12,8 @@ loop-i-init c = (c.requires.place, sym (next_open_none _), refl, refl, refl)
 pub bounds-bytes-at : goal.bounds-bytes-at
 bounds-bytes-at c = omega (arith, row_within _ c.requires.clean _ _ _ c.requires.many c.loop-i-test.true c.loop-i.invariant.0)
 
-pub open-sheets-requires : goal.open-sheets-requires
-open-sheets-requires c =
+pub open_sheets-requires : goal.open_sheets-requires
+open_sheets-requires c =
     let b = c.args.bytes.now in
     let v = c.loop-i.invariant in
     record {
@@ -21,20 +21,20 @@ open-sheets-requires c =
       room = omega (arith, sheet_small b c.requires.clean _ _ _ c.requires.many c.loop-i-test.true v.0);
     }
 
-pub overflow-add-at : goal.overflow-add-at
-overflow-add-at c = omega (arith, row_within _ c.requires.clean _ _ _ c.requires.many c.loop-i-test.true c.loop-i.invariant.0)
+pub overflow_add-at : goal.overflow_add-at
+overflow_add-at c = omega (arith, row_within _ c.requires.clean _ _ _ c.requires.many c.loop-i-test.true c.loop-i.invariant.0)
 
-pub word-in-requires : goal.word-in-requires
-word-in-requires c = omega (arith, row_within _ c.requires.clean _ _ _ c.requires.many c.loop-i-test.true c.loop-i.invariant.0)
+pub word_in-requires : goal.word_in-requires
+word_in-requires c = omega (arith, row_within _ c.requires.clean _ _ _ c.requires.many c.loop-i-test.true c.loop-i.invariant.0)
 
-pub overflow-add-at-in-loop-i : goal.overflow-add-at-in-loop-i
-overflow-add-at-in-loop-i c = omega (arith, row_within _ c.requires.clean _ _ _ c.requires.many c.loop-i-test.true c.loop-i.invariant.0)
+pub overflow_add-at-in-loop-i : goal.overflow_add-at-in-loop-i
+overflow_add-at-in-loop-i c = omega (arith, row_within _ c.requires.clean _ _ _ c.requires.many c.loop-i-test.true c.loop-i.invariant.0)
 
-pub word-in-requires-in-loop-i : goal.word-in-requires-in-loop-i
-word-in-requires-in-loop-i c = omega (arith, row_within _ c.requires.clean _ _ _ c.requires.many c.loop-i-test.true c.loop-i.invariant.0)
+pub word_in-requires-in-loop-i : goal.word_in-requires-in-loop-i
+word_in-requires-in-loop-i c = omega (arith, row_within _ c.requires.clean _ _ _ c.requires.many c.loop-i-test.true c.loop-i.invariant.0)
 
-pub overflow-add-at-in-loop-i-2 : goal.overflow-add-at-in-loop-i-2
-overflow-add-at-in-loop-i-2 c = omega (arith, row_within _ c.requires.clean _ _ _ c.requires.many c.loop-i-test.true c.loop-i.invariant.0)
+pub overflow_add-at-in-loop-i-2 : goal.overflow_add-at-in-loop-i-2
+overflow_add-at-in-loop-i-2 c = omega (arith, row_within _ c.requires.clean _ _ _ c.requires.many c.loop-i-test.true c.loop-i.invariant.0)
 
 pub loop-i-preserved : goal.loop-i-preserved
 loop-i-preserved c =
@@ -45,13 +45,13 @@ loop-i-preserved c =
       omega arith,
       ap (λ (x : ℕ). byte b x + 1) v.0 ∙ sym (next_open_more b i),
       over_level (λ (w : ℕ). rows_before b w c.args.rows) _ _ _ _ _ _ (sheet_order b c.requires.clean _ _ _ c.requires.many l v.0 _ v.1)
-          (sheet_opens b c.requires.clean _ _ _ c.requires.many l v.0 _ v.1) v.2 c.open-sheets.ensures,
-      over_table_more (row_applicant_in b) i _ _ _ v.3 (c.word-in.ensures ∙ ap (λ (x : ℕ). word b (x + 1)) v.0) (omega arith),
-      over_table_more (row_points_in b) i _ _ _ v.4 (c.word-in-in-loop-i.ensures ∙ ap (λ (x : ℕ). word b (x + 3)) v.0) (omega arith),
+          (sheet_opens b c.requires.clean _ _ _ c.requires.many l v.0 _ v.1) v.2 c.open_sheets.ensures,
+      over_table_more (row_applicant_in b) i _ _ _ v.3 (c.word_in.ensures ∙ ap (λ (x : ℕ). word b (x + 1)) v.0) (omega arith),
+      over_table_more (row_points_in b) i _ _ _ v.4 (c.word_in-in-loop-i.ensures ∙ ap (λ (x : ℕ). word b (x + 3)) v.0) (omega arith),
     )
 
-pub open-sheets-requires-2 : goal.open-sheets-requires-2
-open-sheets-requires-2 c =
+pub open_sheets-requires-2 : goal.open_sheets-requires-2
+open_sheets-requires-2 c =
     let b = c.args.bytes.now in
     let e : c.loop-i.i ≡ c.args.rows = omega arith in
     let small = last_small b c.requires.clean _ _ _ c.requires.many e c.loop-i.invariant.1 in
@@ -66,7 +66,7 @@ returns c =
     record {
       sheeted =
           over_level (λ (w : ℕ). rows_before b w c.args.rows) _ _ _ _ _ _ (omega arith)
-          (λ k h _. last_opens b c.requires.clean _ _ _ c.requires.many e v.1 k h) v.2 c.open-sheets-2.ensures;
+          (λ k h _. last_opens b c.requires.clean _ _ _ c.requires.many e v.1 k h) v.2 c.open_sheets-2.ensures;
       rowed = over_end (table (row_applicant_in b)) _ _ _ _ e v.3;
       pointed = over_end (table (row_points_in b)) _ _ _ _ e v.4;
     }

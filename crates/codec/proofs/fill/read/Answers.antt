@@ -6,12 +6,12 @@ use Rattle.layout.proofs.RoundTrip.{all_as_written}
 use Rattle.codec.proofs.Answered.{refused_by_check, no_fault, refused_by_room, read_answer, roomy_from_test, applicants_is, workshops_is, entries_all, rows_is, few_workshops, records_is, rows_from_is, records_within, seats_laid, lots_laid, starts_laid, entries_laid, row_starts_laid, row_applicants_laid, row_points_laid, ready_read, whole_read}
 use Rattle.codec.proofs.fill.read.Goals as goal
 
-pub returns-in-err-sizes : goal.returns-in-err-sizes
-returns-in-err-sizes c =
-    let p = err_from_is_err_and c.from-residual.result c.from-residual.ensures.1 in
+pub returns-in_err-sizes : goal.returns-in_err-sizes
+returns-in_err-sizes c =
+    let p = err_from_is_err_and c.from_residual.result c.from_residual.ensures.1 in
     rw (p.1, p.2)
     (record {
-      answer = refused_by_check _ _ _ _ _ c.in-err-sizes.ensures;
+      answer = refused_by_check _ _ _ _ _ c.in_err-sizes.ensures;
       seated = refl;
       drawn = refl;
       started = refl;
@@ -19,15 +19,15 @@ returns-in-err-sizes c =
       sheeted = refl;
       rowed = refl;
       pointed = refl;
-      written = all_as_written c.args.bytes.now (λ k _. omega (arith, c.type-inv.bytes k));
+      written = all_as_written c.args.bytes.now (λ k _. omega (arith, c.type_inv.bytes k));
       ready = tt;
       whole = tt;
     })
 
-pub returns-then-not-has-room : goal.returns-then-not-has-room
-returns-then-not-has-room c =
+pub returns-then-not-has_room : goal.returns-then-not-has_room
+returns-then-not-has_room c =
     record {
-      answer = refused_by_room c.args.bytes.now _ c.in-ok-sizes.ensures _ _ _ _ _ _ _ _ c.has-room.ensures c.if-not-has-room.true;
+      answer = refused_by_room c.args.bytes.now _ c.in_ok-sizes.ensures _ _ _ _ _ _ _ _ c.has_room.ensures c.if-not-has_room.true;
       seated = refl;
       drawn = refl;
       started = refl;
@@ -35,65 +35,65 @@ returns-then-not-has-room c =
       sheeted = refl;
       rowed = refl;
       pointed = refl;
-      written = all_as_written c.args.bytes.now (λ k _. omega (arith, c.type-inv.bytes k));
+      written = all_as_written c.args.bytes.now (λ k _. omega (arith, c.type_inv.bytes k));
       ready = tt;
       whole = tt;
     }
 
-pub fill-seats-requires : goal.fill-seats-requires
-fill-seats-requires c =
+pub fill_seats-requires : goal.fill_seats-requires
+fill_seats-requires c =
     let b = c.args.bytes.now in
-    let s = c.in-ok-sizes.sizes in
-    let ok = c.in-ok-sizes.ensures in
-    let room = roomy_from_test b s ok _ _ _ _ _ _ _ _ c.has-room.ensures c.if-not-has-room.false in
+    let s = c.in_ok-sizes.sizes in
+    let ok = c.in_ok-sizes.ensures in
+    let room = roomy_from_test b s ok _ _ _ _ _ _ _ _ c.has_room.ensures c.if-not-has_room.false in
     record { few = few_workshops b s ok; there = records_within b s ok; room = room.for_seats }
 
-pub fill-lists-requires : goal.fill-lists-requires
-fill-lists-requires c =
+pub fill_lists-requires : goal.fill_lists-requires
+fill_lists-requires c =
     let b = c.args.bytes.now in
-    let s = c.in-ok-sizes.sizes in
-    let ok = c.in-ok-sizes.ensures in
-    let room = roomy_from_test b s ok _ _ _ _ _ _ _ _ c.has-room.ensures c.if-not-has-room.false in
+    let s = c.in_ok-sizes.sizes in
+    let ok = c.in_ok-sizes.ensures in
+    let room = roomy_from_test b s ok _ _ _ _ _ _ _ _ c.has_room.ensures c.if-not-has_room.false in
     record {
       clean = no_fault b s ok;
       place = records_is b s ok;
       many = applicants_is b s ok;
-      lot-room = room.for_lots;
-      start-room = room.for_starts;
-      entry-room = omega (arith, entries_all b s ok, room.for_entries);
+      lot_room = room.for_lots;
+      start_room = room.for_starts;
+      entry_room = omega (arith, entries_all b s ok, room.for_entries);
     }
 
-pub fill-rows-requires : goal.fill-rows-requires
-fill-rows-requires c =
+pub fill_rows-requires : goal.fill_rows-requires
+fill_rows-requires c =
     let b = c.args.bytes.now in
-    let s = c.in-ok-sizes.sizes in
-    let ok = c.in-ok-sizes.ensures in
-    let room = roomy_from_test b s ok _ _ _ _ _ _ _ _ c.has-room.ensures c.if-not-has-room.false in
+    let s = c.in_ok-sizes.sizes in
+    let ok = c.in_ok-sizes.ensures in
+    let room = roomy_from_test b s ok _ _ _ _ _ _ _ _ c.has_room.ensures c.if-not-has_room.false in
     record {
       clean = no_fault b s ok;
       place = omega (arith, rows_from_is b s ok);
       many = rows_is b s ok;
       size = workshops_is b s ok;
-      start-room = room.for_row_starts;
-      applicant-room = room.for_row_applicants;
-      point-room = room.for_row_points;
+      start_room = room.for_row_starts;
+      applicant_room = room.for_row_applicants;
+      point_room = room.for_row_points;
     }
 
 pub returns : goal.returns
 returns c =
     let b = c.args.bytes.now in
-    let s = c.in-ok-sizes.sizes in
-    let ok = c.in-ok-sizes.ensures in
-    let small : BytesOnly b = λ k _. omega (arith, c.type-inv.bytes k) in
-    let seated = seats_laid b s ok _ _ c.fill-seats.ensures in
-    let drawn = lots_laid b s ok _ _ c.fill-lists.ensures.drawn in
-    let started = starts_laid b s ok _ _ c.fill-lists.ensures.started in
-    let listed = entries_laid b s ok _ _ c.fill-lists.ensures.listed in
-    let sheeted = row_starts_laid b s ok _ _ c.fill-rows.ensures.sheeted in
-    let rowed = row_applicants_laid b s ok _ _ c.fill-rows.ensures.rowed in
-    let pointed = row_points_laid b s ok _ _ c.fill-rows.ensures.pointed in
+    let s = c.in_ok-sizes.sizes in
+    let ok = c.in_ok-sizes.ensures in
+    let small : BytesOnly b = λ k _. omega (arith, c.type_inv.bytes k) in
+    let seated = seats_laid b s ok _ _ c.fill_seats.ensures in
+    let drawn = lots_laid b s ok _ _ c.fill_lists.ensures.drawn in
+    let started = starts_laid b s ok _ _ c.fill_lists.ensures.started in
+    let listed = entries_laid b s ok _ _ c.fill_lists.ensures.listed in
+    let sheeted = row_starts_laid b s ok _ _ c.fill_rows.ensures.sheeted in
+    let rowed = row_applicants_laid b s ok _ _ c.fill_rows.ensures.rowed in
+    let pointed = row_points_laid b s ok _ _ c.fill_rows.ensures.pointed in
     record {
-      answer = read_answer b s ok _ _ _ _ _ _ _ _ c.has-room.ensures c.if-not-has-room.false;
+      answer = read_answer b s ok _ _ _ _ _ _ _ _ c.has_room.ensures c.if-not-has_room.false;
       seated = seated;
       drawn = drawn;
       started = started;

@@ -10,13 +10,13 @@ use Rattle.codec.proofs.judge.judge_places.Goals as goal
 pub loop-w-init : goal.loop-w-init
 loop-w-init c = (c.requires, first_of_zero _)
 
-pub returns-in-default : goal.returns-in-default
-returns-in-default c =
+pub returns-in_default : goal.returns-in_default
+returns-in_default c =
     let f : places_fault c.args.bytes.now c.loop-w.w ≡ Some (Short (length c.args.bytes.now)) = grind (arith, nat_tests) in
     record { answer = refused_at _ _ _ _ _ c.loop-w.invariant.1 f c.loop-w-test.true; within = tt }
 
-pub returns-then-places-gt-MOST-PLACES : goal.returns-then-places-gt-MOST-PLACES
-returns-then-places-gt-MOST-PLACES c =
+pub returns-then-places-gt-MOST_PLACES : goal.returns-then-places-gt-MOST_PLACES
+returns-then-places-gt-MOST_PLACES c =
     let g = c.in-Some.ensures in
     let f : places_fault c.args.bytes.now c.loop-w.w ≡ Some (BadSize (4 + c.loop-w.w)) = grind (arith, nat_tests) in
     record { answer = refused_at _ _ _ _ _ c.loop-w.invariant.1 f c.loop-w-test.true; within = tt }

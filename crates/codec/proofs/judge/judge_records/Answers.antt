@@ -10,9 +10,9 @@ use Rattle.codec.proofs.judge.judge_records.Goals as goal
 pub loop-a-init : goal.loop-a-init
 loop-a-init c = (c.requires.place, c.requires.within, first_of_zero _, length-replicate 65536 false, seen_none _)
 
-pub returns-in-default : goal.returns-in-default
-returns-in-default c =
-    let f = record_short _ _ _ c.loop-a.invariant.0 (not_there _ _ _ _ c.in-default.ensures) in
+pub returns-in_default : goal.returns-in_default
+returns-in_default c =
+    let f = record_short _ _ _ c.loop-a.invariant.0 (not_there _ _ _ _ c.in_default.ensures) in
     record { answer = refused_at _ _ _ _ _ c.loop-a.invariant.2 f c.loop-a-test.true; within = tt }
 
 pub returns-in-Err : goal.returns-in-Err
@@ -30,7 +30,7 @@ loop-a-preserved c =
     let t = lot_seen_is _ _ _ _ _ g.1 l c.loop-a.invariant.4 in
     let n = none_from_ok _ _ _ c.in-Ok.ensures.answer in
     let f = record_by_place _ _ _ c.loop-a.invariant.0 _ _ c.requires.size g.0 t ∙ n.0 in
-    let e : c.in-Some.lot ≡ lot_in c.args.bytes.now c.loop-a.-a = g.1 ∙ ap (λ x. word c.args.bytes.now x) c.loop-a.invariant.0 in (
+    let e : c.in-Some.lot ≡ lot_in c.args.bytes.now c.loop-a._a = g.1 ∙ ap (λ x. word c.args.bytes.now x) c.loop-a.invariant.0 in (
       sym n.1 ∙ sym (record_after _ _ _ c.loop-a.invariant.0),
       c.in-Ok.ensures.within,
       first_of_more _ _ c.loop-a.invariant.2 f,

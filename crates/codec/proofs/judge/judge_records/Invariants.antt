@@ -5,8 +5,8 @@ use Rattle.codec.proofs.judge.judge_records.Given as goal
 
 abbrev pub invariant-loop-a : goal.invariant-loop-a
 invariant-loop-a l =
-    (l.at ≡ record_at l.bytes l.-a)
+    (l.at ≡ record_at l.bytes l._a)
     × (l.at ≤ length l.bytes)
-    × (first_of (record_fault l.bytes) l.-a ≡ None)
+    × (first_of (record_fault l.bytes) l._a ≡ None)
     × (length l.seen ≡ 65536)
-    × ((v : ℕ) → v < 65536 → get_or l.seen v false ≡ lot_seen l.bytes v l.-a)
+    × ((v : ℕ) → v < 65536 → get_or l.seen v false ≡ lot_seen l.bytes v l._a)

@@ -25,6 +25,6 @@ loop-i-preserved c =
       omega arith,
       c.in-Ok.ensures.within,
       first_of_more _ _ v.2 f,
-      sym (ap (λ (x : Mark). x.workshop) n.1) ∙ (ap (λ (x : ℕ). byte b x) v.0 ∙ sym (least_workshop_more b c.loop-i.-i)),
-      sym (ap (λ (x : Mark). x.applicant) n.1) ∙ (ap (λ (x : ℕ). word b (x + 1) + 1) v.0 ∙ sym (least_applicant_more b c.loop-i.-i)),
+      sym (ap (λ (x : Mark). x.workshop) n.1) ∙ (ap (λ (x : ℕ). byte b x) v.0 ∙ sym (least_workshop_more b c.loop-i._i)),
+      sym (ap (λ (x : Mark). x.applicant) n.1) ∙ (ap (λ (x : ℕ). word b (x + 1) + 1) v.0 ∙ sym (least_applicant_more b c.loop-i._i)),
     )

@@ -6,8 +6,8 @@ use Rattle.codec.proofs.judge.judge_rows.Given as goal
 
 abbrev pub invariant-loop-i : goal.invariant-loop-i
 invariant-loop-i l =
-    (l.at ≡ row_at l.bytes l.-i)
+    (l.at ≡ row_at l.bytes l._i)
     × (l.at ≤ length l.bytes)
-    × (first_of (row_fault l.bytes) l.-i ≡ None)
-    × (l.least.workshop ≡ least_workshop l.bytes l.-i)
-    × (l.least.applicant ≡ least_applicant l.bytes l.-i)
+    × (first_of (row_fault l.bytes) l._i ≡ None)
+    × (l.least.workshop ≡ least_workshop l.bytes l._i)
+    × (l.least.applicant ≡ least_applicant l.bytes l._i)

@@ -8,33 +8,33 @@ use Rattle.codec.proofs.measuring.measure.Goals as goal
 pub loop-a-init : goal.loop-a-init
 loop-a-init c = (omega (arith, record_at_none c.args.bytes.now), omega arith)
 
-pub overflow-add-at : goal.overflow-add-at
-overflow-add-at c = omega (arith, c.loop-a.invariant.1)
+pub overflow_add-at : goal.overflow_add-at
+overflow_add-at c = omega (arith, c.loop-a.invariant.1)
 
-pub overflow-add-at-in-loop-a-2 : goal.overflow-add-at-in-loop-a-2
-overflow-add-at-in-loop-a-2 c = omega (arith, c.loop-a.invariant.1)
+pub overflow_add-at-in-loop-a-2 : goal.overflow_add-at-in-loop-a-2
+overflow_add-at-in-loop-a-2 c = omega (arith, c.loop-a.invariant.1)
 
 pub loop-a-preserved : goal.loop-a-preserved
 loop-a-preserved c =
     let b = c.args.bytes.now in
-    let here : c.byte-or-zero.result ≡ byte b (record_at b c.loop-a.-a + 2) =
-    c.byte-or-zero.ensures ∙ ap (λ (x : ℕ). byte b (x + 2)) c.loop-a.invariant.0 in
-    (omega (arith, c.loop-a.invariant.0, here, record_at_more b c.loop-a.-a), omega (arith, c.loop-a.invariant.1))
+    let here : c.byte_or_zero.result ≡ byte b (record_at b c.loop-a._a + 2) =
+    c.byte_or_zero.ensures ∙ ap (λ (x : ℕ). byte b (x + 2)) c.loop-a.invariant.0 in
+    (omega (arith, c.loop-a.invariant.0, here, record_at_more b c.loop-a._a), omega (arith, c.loop-a.invariant.1))
 
-pub overflow-sub-result : goal.overflow-sub-result
-overflow-sub-result c = omega (arith, c.loop-a.invariant.0, record_at_is c.args.bytes.now c.loop-a.-a)
+pub overflow_sub-result : goal.overflow_sub-result
+overflow_sub-result c = omega (arith, c.loop-a.invariant.0, record_at_is c.args.bytes.now c.loop-a._a)
 
-pub overflow-sub-result-2 : goal.overflow-sub-result-2
-overflow-sub-result-2 c = omega (arith, c.loop-a.invariant.0, record_at_is c.args.bytes.now c.loop-a.-a)
+pub overflow_sub-result-2 : goal.overflow_sub-result-2
+overflow_sub-result-2 c = omega (arith, c.loop-a.invariant.0, record_at_is c.args.bytes.now c.loop-a._a)
 
-pub word-or-zero-requires : goal.word-or-zero-requires
-word-or-zero-requires c = omega (arith, c.loop-a.invariant.1)
+pub word_or_zero-requires : goal.word_or_zero-requires
+word_or_zero-requires c = omega (arith, c.loop-a.invariant.1)
 
 pub returns : goal.returns
 returns c =
     let b = c.args.bytes.now in
-    let n = c.word-or-zero-applicants.ensures in
-    let m = c.word-or-zero-workshops.ensures in
-    let all : c.loop-a.-a ≡ applicants_in b = omega arith in
+    let n = c.word_or_zero-applicants.ensures in
+    let m = c.word_or_zero-workshops.ensures in
+    let all : c.loop-a._a ≡ applicants_in b = omega arith in
     let found : c.loop-a.at ≡ record_at b (applicants_in b) = c.loop-a.invariant.0 ∙ ap (λ (a : ℕ). record_at b a) all in
-    same_sizes n m (omega (arith, n, m, found, record_at_is b (applicants_in b))) (c.word-or-zero.ensures ∙ ap (λ (x : ℕ). word b x) found)
+    same_sizes n m (omega (arith, n, m, found, record_at_is b (applicants_in b))) (c.word_or_zero.ensures ∙ ap (λ (x : ℕ). word b x) found)

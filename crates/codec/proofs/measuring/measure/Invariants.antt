@@ -5,5 +5,5 @@ use Rattle.codec.proofs.measuring.measure.Given as goal
 
 abbrev pub invariant-loop-a : goal.invariant-loop-a
 invariant-loop-a l =
-    (l.at ≡ record_at l.bytes l.-a)
-    × (l.at ≤ l.records-from + 258 * l.-a)
+    (l.at ≡ record_at l.bytes l._a)
+    × (l.at ≤ l.records_from + 258 * l._a)

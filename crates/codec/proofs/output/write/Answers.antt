@@ -21,6 +21,6 @@ returns c =
       answer = write_answer t p _ c.args.out.now (omega (arith, length_encode t p)) c.if-out-size.false;
       written =
           encode_put t p _ _ _ c.applicants-applicants.ensures c.workshops-workshops.ensures refl c.args.out.now _ _ _ _ _ _
-          c.put-word.ensures c.put-word-2.ensures c.write-places.ensures c.write-records.ensures c.put-word-3.ensures c.write-sheets.ensures;
+          c.put_word.ensures c.put_word-2.ensures c.write_places.ensures c.write_records.ensures c.put_word-3.ensures c.write_sheets.ensures;
       back = reads_back t p;
     }

@@ -13,8 +13,8 @@ pub loop-a-init : goal.loop-a-init
 unfolding flat
 loop-a-init c = sym (put_none c.args.at c.args.out.now)
 
-pub write-record-requires : goal.write-record-requires
-write-record-requires c =
+pub write_record-requires : goal.write_record-requires
+write_record-requires c =
     let t = tables_of c.args.round.now in
     let l : c.loop-a.a < applicants t = omega arith in
     record { one = l; room = omega (arith, record_room t (proper_round c.args.round.now) c.loop-a.a l) }
@@ -23,4 +23,4 @@ pub loop-a-preserved : goal.loop-a-preserved
 loop-a-preserved c =
     let t = tables_of c.args.round.now in
     let place = length_records t (proper_round c.args.round.now) c.loop-a.a (omega arith) in
-    put_flat_more (record_bytes t) c.args.at c.loop-a.a _ c.loop-a.out _ c.args.out.now (omega arith) (omega arith) c.loop-a.invariant c.write-record.ensures
+    put_flat_more (record_bytes t) c.args.at c.loop-a.a _ c.loop-a.out _ c.args.out.now (omega arith) (omega arith) c.loop-a.invariant c.write_record.ensures

@@ -23,12 +23,12 @@ bounds-round-from-in-loop-k c =
       c.args.round.now.rowed.0,
     )
 
-pub write-row-requires : goal.write-row-requires
-write-row-requires c = omega (arith, length_sheet (tables_of c.args.round.now) (proper_round c.args.round.now) c.args.w, c.requires.room)
+pub write_row-requires : goal.write_row-requires
+write_row-requires c = omega (arith, length_sheet (tables_of c.args.round.now) (proper_round c.args.round.now) c.args.w, c.requires.room)
 
 pub loop-k-preserved : goal.loop-k-preserved
 loop-k-preserved c =
     let t = tables_of c.args.round.now in
     let at_row : ℕ = get_or c.args.round.now.row_starts.now c.args.w 0 in
     let place = length_rows t (proper_round c.args.round.now) c.args.w at_row c.loop-k.k in
-    put_flat_more (λ (k : ℕ). row_bytes t c.args.w (at_row + k)) c.args.at c.loop-k.k _ c.loop-k.out _ c.args.out.now (omega arith) (omega arith) c.loop-k.invariant c.write-row.ensures
+    put_flat_more (λ (k : ℕ). row_bytes t c.args.w (at_row + k)) c.args.at c.loop-k.k _ c.loop-k.out _ c.args.out.now (omega arith) (omega arith) c.loop-k.invariant c.write_row.ensures

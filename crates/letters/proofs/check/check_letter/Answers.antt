@@ -10,4 +10,4 @@ pub returns : goal.returns
 returns c =
     let b = c.args.bytes.now in
     let P : Result Verdict Refusal → Type 0 = λ r. Exact b r in
-    record { told = c.judge.ensures; exact = subst P (sym c.judge.ensures) (exact b (λ k h. omega (arith, c.type-inv.bytes k))) }
+    record { told = c.judge.ensures; exact = subst P (sym c.judge.ensures) (exact b (λ k h. omega (arith, c.type_inv.bytes k))) }

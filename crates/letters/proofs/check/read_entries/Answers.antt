@@ -20,7 +20,7 @@ returns-in-Err c =
     let j = c.loop-j.j in
     let w = byte b (entry_at j) in
     let e = some_from_err (judged (get_or c.loop-j.seen w false) b j) (entry_in (part_at b j)) _ c.in-Err.ensures in
-    let s = c.loop-j.invariant.2 w (omega (arith, c.type-inv.bytes (entry_at j))) in
+    let s = c.loop-j.invariant.2 w (omega (arith, c.type_inv.bytes (entry_at j))) in
     let here = first_of_at (listed_fault b) c.args.count j _ c.loop-j.invariant.0 (ap (λ (z : Bool). judged z b j) (sym s) ∙ e) (omega arith) in
     err_from_some (first_of (listed_fault b) (count_in b)) _ _ (ap (first_of (listed_fault b)) (sym c.requires.0) ∙ here)
 
@@ -30,7 +30,7 @@ loop-j-preserved c =
     let j = c.loop-j.j in
     let w = byte b (entry_at j) in
     let e = none_from_ok (judged (get_or c.loop-j.seen w false) b j) (entry_in (part_at b j)) _ c.in-Ok.ensures in
-    let small : w < 256 = omega (arith, c.type-inv.bytes (entry_at j)) in
+    let small : w < 256 = omega (arith, c.type_inv.bytes (entry_at j)) in
     let s = c.loop-j.invariant.2 w small in
     let here : c.in-Ok.entry.workshop ≡ w = ap (λ (x : Entry). x.workshop) e.1 ∙ get_or-drop (entry_at j) b 0 0 ∙ ap (byte b) (add-zero (entry_at j)) in
     let reach : c.reaches.result ≡ reached_in b j =

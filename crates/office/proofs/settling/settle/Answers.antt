@@ -10,12 +10,12 @@ use Rattle.office.proofs.settling.settle.Goals as goal
 
 pub returns-in-Err : goal.returns-in-Err
 returns-in-Err c =
-    let small : BytesOnly c.args.bytes.now = λ k _. omega (arith, c.type-inv.bytes k) in
+    let small : BytesOnly c.args.bytes.now = λ k _. omega (arith, c.type_inv.bytes k) in
     record { outcome = c.in-Err.ensures; promised = tt; written = all_as_written c.args.bytes.now small }
 
 pub returns-in-Ok-settle-held : goal.returns-in-Ok-settle-held
 returns-in-Ok-settle-held c =
-    let small : BytesOnly c.args.bytes.now = λ k _. omega (arith, c.type-inv.bytes k) in
+    let small : BytesOnly c.args.bytes.now = λ k _. omega (arith, c.type_inv.bytes k) in
     let settled = c.in-Ok-settle-held.settled in
     record {
       outcome = c.in-Ok.ensures ∙ ap {B = Result Tables Refusal} (λ (t : Tables). Ok t) (sym c.in-Ok-settle-held.ensures);
@@ -25,5 +25,5 @@ returns-in-Ok-settle-held c =
 
 pub returns-in-Err-settle-held : goal.returns-in-Err-settle-held
 returns-in-Err-settle-held c =
-    let small : BytesOnly c.args.bytes.now = λ k _. omega (arith, c.type-inv.bytes k) in
+    let small : BytesOnly c.args.bytes.now = λ k _. omega (arith, c.type_inv.bytes k) in
     record { outcome = tt; promised = tt; written = all_as_written c.args.bytes.now small }

@@ -3,7 +3,7 @@ use Rattle.std.proofs.Common.{◌≡◌, ℕ, ◌+◌, ◌-◌, List, take, arit
 use Rattle.layout.specs.Tables.{tables}
 use Rattle.layout.specs.declared.Sizes.{Sizes}
 use Rattle.codec.specs.Fronts.{fronts}
-use Rattle.codec.proofs.Rounds.{parts_of_proper}
+use Rattle.codec.proofs.Rounds.{proper_like}
 use Rattle.codec.proofs.tables.Round.over.Goals as goal
 
 none_off : (n : ℕ) → n - 0 ≡ n
@@ -22,8 +22,24 @@ same s a b c d e f g =
     (take (none_off s.rows i) f)
     (take (none_off s.rows i) g)
 
-pub invariant-of-result : goal.invariant-of-result
-invariant-of-result c = parts_of_proper _ _ (same c.args.sizes c.args.seats.now c.args.lots.now c.args.starts.now c.args.entries.now c.args.row_starts.now c.args.row_applicants.now c.args.row_points.now) c.requires.proper
+pub invariant_of-result : goal.invariant_of-result
+invariant_of-result c =
+    let p =
+    proper_like _ _
+    (same c.args.sizes c.args.seats.now c.args.lots.now c.args.starts.now c.args.entries.now c.args.row_starts.now c.args.row_applicants.now c.args.row_points.now)
+    c.requires.proper in
+    record {
+      limited = p.limited;
+      seated = p.seated;
+      started = p.started;
+      named = p.named;
+      distinct = p.distinct;
+      drawn = p.drawn;
+      apart = p.apart;
+      sheeted = p.sheeted;
+      rowed = p.rowed;
+      sorted = p.sorted;
+    }
 
 pub returns : goal.returns
 returns c = same c.args.sizes c.args.seats.now c.args.lots.now c.args.starts.now c.args.entries.now c.args.row_starts.now c.args.row_applicants.now c.args.row_points.now
