@@ -1,7 +1,7 @@
 // Points and lots: who goes ahead of whom, and each list entry's row.
 #![tactic(auto)]
 
-ghost use Rattle.std.specs.Prelude.{◌≡◌, ltb, if◌then◌else◌, nat_lt};
+ghost use Rattle.std.specs.Prelude.{◌≡◌, if◌then◌else◌, nat_lt};
 ghost use Rattle.round.specs.ByPoints.{worth_of};
 ghost use Rattle.codec.specs.Rounds.{tables_of};
 ghost use Rattle.points.specs.Standing.{points_of_row, lot_of_row, row_worth};
@@ -27,7 +27,7 @@ pub fn goes_ahead(points: Points, lot: Lot, other: Points, other_lot: Lot) -> bo
 // Where to look for a row's points, among so many rows, and by how many bits to shift what stands there: a row that is there is not
 // shifted at all, and of another the first row's points are shifted away.
 fn place_and_shift(row: usize, rows: usize) -> (usize, u32)
-    ensures { result ≡ (if ltb row rows then row, 0 else 0, 16) }
+    ensures { result ≡ (if nat_lt row rows then (row, 0) else (0, 16)) }
 {
     if row < rows { (row, 0) } else { (0, 16) }
 }

@@ -32,7 +32,7 @@ fn next_row(round: &Round, w: usize, from: usize, applicant: usize) -> usize
 // The row `i` if it is one of workshop `w` and the applicant's own; else `u32::MAX`.
 fn own_row(round: &Round, w: usize, i: usize, applicant: usize) -> u32
     requires workshop { w < workshops (tables_of round.now) }
-    ensures { result ≡ (if ltb i (to_row (tables_of round.now) w) && applicant_of (tables_of round.now) i == applicant then i else no_row) }
+    ensures { result ≡ (if nat_lt i (to_row (tables_of round.now) w) && applicant_of (tables_of round.now) i == applicant then i else no_row) }
 {
     if i < round.row_starts[w + 1] as usize && round.row_applicants[i] as usize == applicant {
         i as u32

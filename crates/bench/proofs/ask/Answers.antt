@@ -7,7 +7,7 @@ use Rattle.points.proofs.Lots.{tables_proper, row_worth_no_row}
 use Rattle.bench.proofs.Holding.{best_of_taken_in}
 use Rattle.bench.proofs.Shift.{shifted_last, shifted_more, leads_last, leads_more, taken_in_none, taken_in_same, taken_in_set, answer_none, answer_stays, answer_seated}
 use Rattle.bench.proofs.ask.Goals as goal
-use Rattle.bench.proofs.ask.Goals.{then-loop-seat-test+else-row-ahead, else-loop-seat-test}
+use Rattle.bench.proofs.ask.Goals.{then-loop-seat-test+else-row_ahead, else-loop-seat-test}
 
 none : (r : Round) → row_worth (tables_of r) no_row ≡ 0
 none r = row_worth_no_row (tables_of r) (tables_proper r)
@@ -21,8 +21,8 @@ returns-then-bench-eq0 c =
       answer = answer_none _ _ _ c.if-bench-eq0.true;
     }
 
-pub returns-then-not-row-ahead : goal.returns-then-not-row-ahead
-returns-then-not-row-ahead c =
+pub returns-then-not-row_ahead : goal.returns-then-not-row_ahead
+returns-then-not-row_ahead c =
     let same = sym (taken_in_same (row_worth (tables_of c.args.round.now)) c.args.row (length c.args.bench.now - 1) 0 c.args.bench.now (omega arith) (cc)) in
     record {
       bench = same;
@@ -44,7 +44,7 @@ pub returns : goal.returns
 returns c =
     let v : ℕ → ℕ = row_worth (tables_of c.args.round.now) in
     let end : (c.loop-seat.seat ≡ 0) ⊎ (ltb (v (get_or c.loop-seat.bench (c.loop-seat.seat - 1) 0)) (v c.args.row) ≡ false) =
-    elim c.loop-seat-test.branch [ then-loop-seat-test+else-row-ahead w ↦ inr (cc) | else-loop-seat-test w ↦ inl (omega arith) ]
+    elim c.loop-seat-test.branch [ then-loop-seat-test+else-row_ahead w ↦ inr (cc) | else-loop-seat-test w ↦ inl (omega arith) ]
     in
     let sat = taken_in_set v c.args.row c.loop-seat.bench _ _ c.loop-seat.invariant.0 c.loop-seat.invariant.1 c.loop-seat.invariant.2 end in
     record {

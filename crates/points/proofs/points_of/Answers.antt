@@ -22,4 +22,4 @@ pub returns : goal.returns
 returns c =
     let some : 0 < length c.args.round.now.row_points.now = omega (arith, c.if-round-eq0.false) in
     let small = c.args.round.now.rowed.3 0 (omega (arith, c.args.round.now.rowed.0, some)) in
-    shifted c.args.round.now.row_points.now c.args.row c.place-and-shift-i.result c.place-and-shift-i.ensures small
+    shifted c.args.round.now.row_points.now c.args.row c.place_and_shift-i.result c.place_and_shift-i.ensures small

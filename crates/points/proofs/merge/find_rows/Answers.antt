@@ -16,8 +16,8 @@ loop-applicant-init c = (refl, passed_none (tables_of c.args.round.now) (tables_
 pub bounds-round-k : goal.bounds-round-k
 bounds-round-k c = entry_within (tables_of c.args.round.now) (tables_proper c.args.round.now) c.loop-applicant.applicant c.loop-k.k c.loop-applicant-test.true c.loop-k-test.true
 
-pub find-row-requires : goal.find-row-requires
-find-row-requires c =
+pub find_row-requires : goal.find_row-requires
+find_row-requires c =
     record {
       workshop =
           (tables_proper c.args.round.now).named c.loop-k.k
@@ -42,10 +42,10 @@ loop-k-preserved c =
     let there : a < applicants t = c.loop-applicant-test.true in
     let from : get_or t.starts a 0 ≤ k = omega arith in (
       search rules,
-      c.find-row.ensures.before,
+      c.find_row.ensures.before,
       λ old e.
-          over_more (found_to t a k) old c.loop-k.rows k c.find-row.result (c.loop-k.invariant.2 old e) (length_found_to t good a k there from) (bounds-rows-k c)
-          ∙ ap (λ (y : ℕ). over (found_to t a k ++ y ∷ []) old) c.find-row.ensures.row
+          over_more (found_to t a k) old c.loop-k.rows k c.find_row.result (c.loop-k.invariant.2 old e) (length_found_to t good a k there from) (bounds-rows-k c)
+          ∙ ap (λ (y : ℕ). over (found_to t a k ++ y ∷ []) old) c.find_row.ensures.row
           ∙ ap (λ (xs : List ℕ). over xs old) (sym (found_to_more t good a k there from c.loop-k-test.true)),
     )
 
