@@ -54,16 +54,16 @@ pub bounds-round-workshop-2 : goal.bounds-round-workshop-2
 bounds-round-workshop-2 c =
     omega (arith, asked_small _ (tables_proper c.args.round.now) c.args.rows.now _ c.args.benches.now c.args.asker c.requires.applicant c.requires.entry)
 
-pub slice-bounds-ask-count : goal.slice-bounds-ask-count
-slice-bounds-ask-count c =
+pub slice_bounds-ask-count : goal.slice_bounds-ask-count
+slice_bounds-ask-count c =
     seats_rise _ (tables_proper c.args.round.now) _ (asked_small _ (tables_proper c.args.round.now) c.args.rows.now _ c.args.benches.now c.args.asker c.requires.applicant c.requires.entry)
 
-pub slice-bounds-ask-start : goal.slice-bounds-ask-start
-slice-bounds-ask-start c =
+pub slice_bounds-ask-start : goal.slice_bounds-ask-start
+slice_bounds-ask-start c =
     seats_rise _ (tables_proper c.args.round.now) _ (asked_small _ (tables_proper c.args.round.now) c.args.rows.now _ c.args.benches.now c.args.asker c.requires.applicant c.requires.entry)
 
-pub slice-bounds-ask-end : goal.slice-bounds-ask-end
-slice-bounds-ask-end c =
+pub slice_bounds-ask-end : goal.slice_bounds-ask-end
+slice_bounds-ask-end c =
     omega (arith, c.requires.asking.room.1, seats_in_all _ (tables_proper c.args.round.now) _ (asked_small _ (tables_proper c.args.round.now) c.args.rows.now _ c.args.benches.now c.args.asker c.requires.applicant c.requires.entry))
 
 pub bounds-rows-at : goal.bounds-rows-at

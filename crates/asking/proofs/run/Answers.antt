@@ -71,23 +71,23 @@ returns-in-Err c =
       fair = fair _ (tables_proper c.args.round.now);
     }
 
-pub ask-all-asks-requires : goal.ask-all-asks-requires
-ask-all-asks-requires c =
+pub ask_all-asks-requires : goal.ask_all-asks-requires
+ask_all-asks-requires c =
     record {
-      found = ap (take _) c.in-default.ensures.rows ∙ take_at _ _ _ (length_rows_found _ (tables_proper c.args.round.now));
+      found = ap (take _) c.in_default.ensures.rows ∙ take_at _ _ _ (length_rows_found _ (tables_proper c.args.round.now));
       asking = begins _ (tables_proper c.args.round.now) c.args.results.now c.args.benches.now c.fill.new.self c.fill-2.new.self c.if-results-applicants.false c.if-benches-seats.false (c.fill.ensures.after (λ y e. e)) (c.fill-2.ensures.after (λ y e. e));
       fresh = none_asked _ (tables_proper c.args.round.now) c.args.results.now c.args.benches.now c.fill.new.self c.fill-2.new.self c.if-results-applicants.false c.if-benches-seats.false (c.fill.ensures.after (λ y e. e)) (c.fill-2.ensures.after (λ y e. e));
     }
 
 pub returns : goal.returns
 returns c =
-    let rest = ends _ (tables_proper c.args.round.now) c.args.results.now c.args.benches.now c.fill.new.self c.fill-2.new.self c.if-results-applicants.false c.if-benches-seats.false (c.fill.ensures.after (λ y e. e)) (c.fill-2.ensures.after (λ y e. e)) _ _ _ c.ask-all-asks.ensures in
+    let rest = ends _ (tables_proper c.args.round.now) c.args.results.now c.args.benches.now c.fill.new.self c.fill-2.new.self c.if-results-applicants.false c.if-benches-seats.false (c.fill.ensures.after (λ y e. e)) (c.fill-2.ensures.after (λ y e. e)) _ _ _ c.ask_all-asks.ensures in
     record {
       value =
-          rw (le-ltb _ _ c.if-results-applicants.false, le-ltb _ _ c.if-benches-seats.false, accepted _ _ _ _ c.in-default.ensures.outcome)
-          (same_outcome _ _ _ _ (asks_are _ (tables_proper c.args.round.now) _ _ _ _ _ rest) (c.tell_placed.ensures.placed ∙ placed_are _ (tables_proper c.args.round.now) _ _ _ _ _ rest));
-      rows = c.in-default.ensures.rows;
-      results = c.tell_placed.ensures.results ∙ told_are _ (tables_proper c.args.round.now) _ _ _ _ _ rest;
+          rw (le-ltb _ _ c.if-results-applicants.false, le-ltb _ _ c.if-benches-seats.false, accepted _ _ _ _ c.in_default.ensures.outcome)
+          (same_outcome _ _ _ _ (asks_are _ (tables_proper c.args.round.now) _ _ _ _ _ rest) (c.tell-placed.ensures.placed ∙ placed_are _ (tables_proper c.args.round.now) _ _ _ _ _ rest));
+      rows = c.in_default.ensures.rows;
+      results = c.tell-placed.ensures.results ∙ told_are _ (tables_proper c.args.round.now) _ _ _ _ _ rest;
       benches = benches_are _ (tables_proper c.args.round.now) _ _ _ _ _ rest;
       fair = fair _ (tables_proper c.args.round.now);
     }

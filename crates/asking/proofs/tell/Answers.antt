@@ -7,27 +7,27 @@ use Rattle.asking.specs.Asking.{ends_at}
 use Rattle.codec.specs.Rounds.{tables_of}
 use Rattle.asking.proofs.Tells.{getD_untold, tell_placed, tell_none}
 use Rattle.asking.proofs.tell.Goals as goal
-use Rattle.asking.proofs.tell.Goals.{then-at-list-len, else-at-list-len}
+use Rattle.asking.proofs.tell.Goals.{then-at-list_len, else-at-list_len}
 
 pub loop-a-init : goal.loop-a-init
 unfolding count
 loop-a-init c = (refl, refl)
 
-pub overflow-sub-at : goal.overflow-sub-at
-overflow-sub-at c =
+pub overflow_sub-at : goal.overflow_sub-at
+overflow_sub-at c =
     omega (arith, getD_untold (tables_of c.args.round.now) c.args.results.now c.loop-a.results c.loop-a.a c.loop-a.placed c.loop-a.invariant.0 c.loop-a.invariant.1 (omega arith), c.requires.begun c.loop-a.a c.loop-a-test.true)
 
-pub overflow-add-placed : goal.overflow-add-placed
-overflow-add-placed c =
+pub overflow_add-placed : goal.overflow_add-placed
+overflow_add-placed c =
     omega (arith, c.loop-a.invariant.1, count_bound (ends_at (tables_of c.args.round.now) c.args.results.now) c.loop-a.a, (tables_proper c.args.round.now).limited.0)
 
 pub loop-a-preserved : goal.loop-a-preserved
 loop-a-preserved c =
-    elim c.if-at-list-len.branch [
-      | then-at-list-len w ↦
-          let step = tell_placed (tables_of c.args.round.now) c.args.results.now c.loop-a.results c.loop-a.a c.loop-a.placed c.loop-a.invariant.0 c.loop-a.invariant.1 (omega arith) (omega (arith, c.list-len.ensures, w.if-at-list-len.true)) in
+    elim c.if-at-list_len.branch [
+      | then-at-list_len w ↦
+          let step = tell_placed (tables_of c.args.round.now) c.args.results.now c.loop-a.results c.loop-a.a c.loop-a.placed c.loop-a.invariant.0 c.loop-a.invariant.1 (omega arith) (omega (arith, c.list_len.ensures, w.if-at-list_len.true)) in
           rw (w.results-is, w.placed-is) step
-      | else-at-list-len w ↦
-          let step = tell_none (tables_of c.args.round.now) c.args.results.now c.loop-a.results c.loop-a.a c.loop-a.placed c.loop-a.invariant.0 c.loop-a.invariant.1 (omega arith) (omega (arith, c.list-len.ensures, w.if-at-list-len.false)) in
+      | else-at-list_len w ↦
+          let step = tell_none (tables_of c.args.round.now) c.args.results.now c.loop-a.results c.loop-a.a c.loop-a.placed c.loop-a.invariant.0 c.loop-a.invariant.1 (omega arith) (omega (arith, c.list_len.ensures, w.if-at-list_len.false)) in
           rw (w.results-is, w.placed-is) step
     ]
