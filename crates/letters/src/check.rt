@@ -65,9 +65,9 @@ fn read_head(bytes: &[u8]) -> Result<usize, Refusal>
 
 // The first entry whose cut is reached, once all entries are well formed.
 fn read_entries(bytes: &[u8], lot: Lot, count: usize) -> Result<usize, Refusal>
-    requires count_value { count ≡ count_in bytes.now }
-    requires count_le_most_entries { count ≤ most_entries }
-    requires lot_value { lot.0 ≡ word bytes.now 2 }
+    requires counted { count ≡ count_in bytes.now }
+    requires few { count ≤ most_entries }
+    requires drawn { lot.0 ≡ word bytes.now 2 }
     ensures { result ≡ outcome (first_of (listed_fault bytes.now) (count_in bytes.now)) (first_in bytes.now) }
 {
     let mut seen = [false; 256];
@@ -110,8 +110,8 @@ fn earlier(first: usize, j: usize, found: bool) -> usize
 
 // The place, behind the entries, with nothing behind it.
 fn read_place(bytes: &[u8], count: usize) -> Result<usize, Refusal>
-    requires count_value { count ≡ count_in bytes.now }
-    requires count_le_most_entries { count ≤ most_entries }
+    requires counted { count ≡ count_in bytes.now }
+    requires few { count ≤ most_entries }
     ensures { result ≡ outcome (end_fault bytes.now) (byte bytes.now (place_at bytes.now)) }
 {
     let at = 5 + 8 * count;

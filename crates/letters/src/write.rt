@@ -162,9 +162,9 @@ fn all_cuts(round: &Round, benches: &[u32]) -> [Cut; 256]
 // What a letter says of entry k, among the entries of all lists. The benches are those of which the cuts were worked out: here and
 // below they stand for what the cuts mean.
 fn entry_of(round: &Round, rows: &[u32], benches: &[u32], cuts: &[Cut; 256], k: usize) -> Entry
-    requires k_in_bounds { k < length round.now.entries.now }
-    requires entries_in_bounds { length round.now.entries.now ≤ length rows.now }
-    requires cuts_told { CutsTold (tables_of round.now) benches.now cuts.now }
+    requires listed { k < length round.now.entries.now }
+    requires found { length round.now.entries.now ≤ length rows.now }
+    requires told { CutsTold (tables_of round.now) benches.now cuts.now }
     ensures { result ≡ entry_from (tables_of round.now) rows.now benches.now k }
 {
     let workshop = round.entries[k];
@@ -185,10 +185,10 @@ fn put_entries(
     count: usize,
     part: &mut [u8],
 )
-    requires count_in_bounds { start + count ≤ length round.now.entries.now }
-    requires entries_in_bounds { length round.now.entries.now ≤ length rows.now }
-    requires cuts_told { CutsTold (tables_of round.now) benches.now cuts.now }
-    requires count_in_bounds_2 { 8 * count ≤ length part.old }
+    requires within { start + count ≤ length round.now.entries.now }
+    requires found { length round.now.entries.now ≤ length rows.now }
+    requires told { CutsTold (tables_of round.now) benches.now cuts.now }
+    requires room { 8 * count ≤ length part.old }
     ensures { part.new ≡ over (flat_map entry_bytes (entries_from (tables_of round.now) rows.now benches.now start count)) part.old }
 {
     for j in 0..count {
@@ -209,10 +209,10 @@ fn put_letter(
     applicant: usize,
     part: &mut [u8],
 )
-    requires applicant_bound { applicant < applicants (tables_of round.now) }
-    requires rows_value { no_room (tables_of round.now) (length results.now) (length benches.now) (length rows.now) ≡ None }
-    requires applicant_in_bounds { letter_length (tables_of round.now) applicant ≤ length part.old }
-    requires cuts_told { CutsTold (tables_of round.now) benches.now cuts.now }
+    requires applicant { applicant < applicants (tables_of round.now) }
+    requires ready { no_room (tables_of round.now) (length results.now) (length benches.now) (length rows.now) ≡ None }
+    requires room { letter_length (tables_of round.now) applicant ≤ length part.old }
+    requires told { CutsTold (tables_of round.now) benches.now cuts.now }
     ensures { part.new ≡ over (letter_bytes (tables_of round.now) rows.now results.now benches.now applicant) part.old }
 {
     let start = round.starts[applicant] as usize;
@@ -231,9 +231,9 @@ fn put_letters(
     cuts: &[Cut; 256],
     part: &mut [u8],
 )
-    requires rows_value { no_room (tables_of round.now) (length results.now) (length benches.now) (length rows.now) ≡ None }
-    requires round_in_bounds { all_length (tables_of round.now) ≤ length part.old }
-    requires cuts_told { CutsTold (tables_of round.now) benches.now cuts.now }
+    requires ready { no_room (tables_of round.now) (length results.now) (length benches.now) (length rows.now) ≡ None }
+    requires room { all_length (tables_of round.now) ≤ length part.old }
+    requires told { CutsTold (tables_of round.now) benches.now cuts.now }
     ensures { part.new ≡ over (all_letters (tables_of round.now) rows.now results.now benches.now) part.old }
 {
     for a in 0..round.lots.len() {

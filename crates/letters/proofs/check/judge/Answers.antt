@@ -20,50 +20,50 @@ verdict_same : (b : List ℕ) (a l n p : ℕ) → a ≡ word b 0 → l ≡ word 
     ◌≡◌ {A = Verdict} (record { applicant = a; lot = record { 0 = l }; entries = n; place = p }) (verdict_in b)
 verdict_same b a l n p e f g h = cc
 
-pub returns-in-err-count : goal.returns-in-err-count
+pub returns-in_err-count : goal.returns-in_err-count
 unfolding judged_bytes letter_fault
-returns-in-err-count c =
+returns-in_err-count c =
     let b = c.args.bytes.now in
-    let p = err_from_is_err_and c.from-residual.result c.from-residual.ensures.1 in
-    let head = some_from_err (head_fault b) _ _ c.in-err-count.ensures.read in
+    let p = err_from_is_err_and c.from_residual.result c.from_residual.ensures.1 in
+    let head = some_from_err (head_fault b) _ _ c.in_err-count.ensures.read in
     rw (p.1, p.2) (fault_at_1 (head_fault b) (entries_fault b) (end_fault b) (place_fault b) (verdict_in b) _ head)
 
-pub returns-in-err-first : goal.returns-in-err-first
+pub returns-in_err-first : goal.returns-in_err-first
 unfolding judged_bytes letter_fault
-returns-in-err-first c =
+returns-in_err-first c =
     let b = c.args.bytes.now in
-    let p = err_from_is_err_and c.from-residual-in-err-first.result c.from-residual-in-err-first.ensures.1 in
-    let head = none_from_ok (head_fault b) _ _ c.in-ok-count.ensures.read in
-    let listed = some_from_err (entries_fault b) _ _ c.in-err-first.ensures in
+    let p = err_from_is_err_and c.from_residual-in_err-first.result c.from_residual-in_err-first.ensures.1 in
+    let head = none_from_ok (head_fault b) _ _ c.in_ok-count.ensures.read in
+    let listed = some_from_err (entries_fault b) _ _ c.in_err-first.ensures in
     rw (p.1, p.2) (fault_at_2 (head_fault b) (entries_fault b) (end_fault b) (place_fault b) (verdict_in b) _ head.0 listed)
 
-pub returns-in-err-place : goal.returns-in-err-place
+pub returns-in_err-place : goal.returns-in_err-place
 unfolding judged_bytes letter_fault
-returns-in-err-place c =
+returns-in_err-place c =
     let b = c.args.bytes.now in
-    let p = err_from_is_err_and c.from-residual-in-err-place.result c.from-residual-in-err-place.ensures.1 in
-    let head = none_from_ok (head_fault b) _ _ c.in-ok-count.ensures.read in
-    let listed = none_from_ok (entries_fault b) _ _ c.in-ok-first.ensures in
-    let end = some_from_err (end_fault b) _ _ c.in-err-place.ensures in
+    let p = err_from_is_err_and c.from_residual-in_err-place.result c.from_residual-in_err-place.ensures.1 in
+    let head = none_from_ok (head_fault b) _ _ c.in_ok-count.ensures.read in
+    let listed = none_from_ok (entries_fault b) _ _ c.in_ok-first.ensures in
+    let end = some_from_err (end_fault b) _ _ c.in_err-place.ensures in
     rw (p.1, p.2) (fault_at_3 (head_fault b) (entries_fault b) (end_fault b) (place_fault b) (verdict_in b) _ head.0 listed.0 end)
 
 pub returns-then-place-first : goal.returns-then-place-first
 unfolding judged_bytes letter_fault
 returns-then-place-first c =
     let b = c.args.bytes.now in
-    let head = none_from_ok (head_fault b) _ _ c.in-ok-count.ensures.read in
-    let listed = none_from_ok (entries_fault b) (first_in b) _ c.in-ok-first.ensures in
-    let end = none_from_ok (end_fault b) (byte b (place_at b)) _ c.in-ok-place.ensures in
-    let other : place_fault b ≡ Some (NotFirst c.in-ok-first.first) = grind (arith, nat_tests) in
+    let head = none_from_ok (head_fault b) _ _ c.in_ok-count.ensures.read in
+    let listed = none_from_ok (entries_fault b) (first_in b) _ c.in_ok-first.ensures in
+    let end = none_from_ok (end_fault b) (byte b (place_at b)) _ c.in_ok-place.ensures in
+    let other : place_fault b ≡ Some (NotFirst c.in_ok-first.first) = grind (arith, nat_tests) in
     fault_at_4 (head_fault b) (entries_fault b) (end_fault b) (place_fault b) (verdict_in b) _ head.0 listed.0 end.0 other
 
 pub returns : goal.returns
 unfolding judged_bytes letter_fault
 returns c =
     let b = c.args.bytes.now in
-    let head = none_from_ok (head_fault b) _ _ c.in-ok-count.ensures.read in
-    let listed = none_from_ok (entries_fault b) (first_in b) _ c.in-ok-first.ensures in
-    let end = none_from_ok (end_fault b) (byte b (place_at b)) _ c.in-ok-place.ensures in
+    let head = none_from_ok (head_fault b) _ _ c.in_ok-count.ensures.read in
+    let listed = none_from_ok (entries_fault b) (first_in b) _ c.in_ok-first.ensures in
+    let end = none_from_ok (end_fault b) (byte b (place_at b)) _ c.in_ok-place.ensures in
     let right : place_fault b ≡ None = grind (arith, nat_tests) in
     let good = no_fault (head_fault b) (entries_fault b) (end_fault b) (place_fault b) (verdict_in b) head.0 listed.0 end.0 right in
     ap Ok (verdict_same b _ _ _ _ c.word-2.ensures c.word.ensures head.1 end.1) ∙ good

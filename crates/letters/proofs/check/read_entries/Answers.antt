@@ -22,7 +22,7 @@ returns-in-Err c =
     let e = some_from_err (judged (get_or c.loop-j.seen w false) b j) (entry_in (part_at b j)) _ c.in-Err.ensures in
     let s = c.loop-j.invariant.2 w (omega (arith, c.type_inv.bytes (entry_at j))) in
     let here = first_of_at (listed_fault b) c.args.count j _ c.loop-j.invariant.0 (ap (λ (z : Bool). judged z b j) (sym s) ∙ e) (omega arith) in
-    err_from_some (first_of (listed_fault b) (count_in b)) _ _ (ap (first_of (listed_fault b)) (sym c.requires.0) ∙ here)
+    err_from_some (first_of (listed_fault b) (count_in b)) _ _ (ap (first_of (listed_fault b)) (sym c.requires.counted) ∙ here)
 
 pub loop-j-preserved : goal.loop-j-preserved
 loop-j-preserved c =
@@ -35,7 +35,7 @@ loop-j-preserved c =
     let here : c.in-Ok.entry.workshop ≡ w = ap (λ (x : Entry). x.workshop) e.1 ∙ get_or-drop (entry_at j) b 0 0 ∙ ap (byte b) (add-zero (entry_at j)) in
     let reach : c.reaches.result ≡ reached_in b j =
     c.reaches.ensures ∙ ap (λ (x : Entry). reached x.points c.args.lot x.cut) e.1
-    ∙ ap (λ (n : ℕ). reached (entry_in (part_at b j)).points (record { 0 = n }) (entry_in (part_at b j)).cut) c.requires.2
+    ∙ ap (λ (n : ℕ). reached (entry_in (part_at b j)).points (record { 0 = n }) (entry_in (part_at b j)).cut) c.requires.drawn
     in
     let found = c.earlier-first.ensures in
     let more = first_reached_more (reached_in b) j (omega arith) in (

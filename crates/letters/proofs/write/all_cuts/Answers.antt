@@ -10,8 +10,8 @@ use Rattle.letters.specs.Written.{bench_in}
 use Rattle.letters.proofs.Writing.{filled_more}
 use Rattle.letters.proofs.write.all_cuts.Goals as goal
 
-pub slice-bounds-cut-of-end : goal.slice-bounds-cut-of-end
-slice-bounds-cut-of-end c =
+pub slice_bounds-cut_of-end : goal.slice_bounds-cut_of-end
+slice_bounds-cut_of-end c =
     let round = c.args.round.now in
     let w = c.loop-w.w in
     let within = rises (λ v. get_or round.seats.now v 0) (workshops (tables_of round)) round.seated.1 (w + 1) (omega arith) in
@@ -26,7 +26,7 @@ loop-w-preserved c =
     let cuts = c.loop-w.cuts in
     let w = c.loop-w.w in (
       length-set cuts w _ ∙ c.loop-w.invariant.0,
-      filled_more (λ v. cut_of_bench t (bench_in t c.args.benches.now v)) cuts w _ Open (omega (arith, c.args.round.now.limited.2)) c.cut-of.ensures c.loop-w.invariant.1,
+      filled_more (λ v. cut_of_bench t (bench_in t c.args.benches.now v)) cuts w _ Open (omega (arith, c.args.round.now.limited.2)) c.cut_of.ensures c.loop-w.invariant.1,
     )
 
 pub returns : goal.returns

@@ -12,5 +12,5 @@ returns c =
     let round = c.args.round.now in
     let w = get_or round.entries.now c.args.k 0 in
     let entry : ℕ → Cut → Entry = λ n cut. record { workshop = w; points = record { 0 = n }; cut = cut } in
-    ap (λ (n : ℕ). entry n (get_or c.args.cuts.now w Open)) c.points-of.ensures
-    ∙ ap (entry (points_of_row (tables_of round) (get_or c.args.rows.now c.args.k 0))) (c.requires.2 w (round.named c.args.k c.requires.0))
+    ap (λ (n : ℕ). entry n (get_or c.args.cuts.now w Open)) c.points_of.ensures
+    ∙ ap (entry (points_of_row (tables_of round) (get_or c.args.rows.now c.args.k 0))) (c.requires.told w (round.named c.args.k c.requires.listed))

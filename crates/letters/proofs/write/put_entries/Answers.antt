@@ -18,5 +18,5 @@ loop-j-preserved c =
     let so_far = flat_map entry_bytes (entries_from t c.args.rows.now c.args.benches.now c.args.start j) in
     let len : length so_far ≡ 8 * j = length_joined_entries _ ∙ ap (λ (n : ℕ). 8 * n) (length_table f j) in
     let rest = take (length c.loop-j.part - 8 * j) (drop (8 * j) c.loop-j.part) in
-    let laid = over_part so_far (entry_bytes (f j)) c.args.part.now c.loop-j.part c.put-entry.new.part (8 * j) c.loop-j.invariant len (c.put-entry.ensures ∙ ap (λ (e : Entry). over (entry_bytes e) rest) {y = f j} c.entry-of.ensures) in
+    let laid = over_part so_far (entry_bytes (f j)) c.args.part.now c.loop-j.part c.put_entry.new.part (8 * j) c.loop-j.invariant len (c.put_entry.ensures ∙ ap (λ (e : Entry). over (entry_bytes e) rest) {y = f j} c.entry_of.ensures) in
     laid ∙ ap (λ (xs : List ℕ). over xs c.args.part.now) (sym (joined_table_more entry_bytes f j))

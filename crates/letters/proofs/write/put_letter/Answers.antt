@@ -12,13 +12,18 @@ use Rattle.letters.specs.declared.entry.Entry.{Entry}
 use Rattle.letters.proofs.Writing.{room_there, length_rest, letter_laid, length_joined_entries}
 use Rattle.letters.proofs.write.put_letter.Goals as goal
 
-pub put-entries-requires : goal.put-entries-requires
-put-entries-requires c =
+pub put_entries-requires : goal.put_entries-requires
+put_entries-requires c =
     let round = c.args.round.now in
-    let there = room_there (tables_of round) _ _ _ c.requires.1 in
+    let there = room_there (tables_of round) _ _ _ c.requires.ready in
     let end = rises (λ a. get_or round.starts.now a 0) (length round.lots.now) round.started.2 (c.args.applicant + 1) (omega arith) in
-    let up = round.started.2 c.args.applicant c.requires.0 in
-    (omega (arith, round.started.4), there.2, c.requires.3, omega (arith, length_rest c.put-head.new.part 5, c.put-head.auto.part, c.requires.2))
+    let up = round.started.2 c.args.applicant c.requires.applicant in
+    record {
+      within = omega (arith, round.started.4);
+      found = there.2;
+      told = c.requires.told;
+      room = omega (arith, length_rest c.put_head.new.part 5, c.put_head.auto.part, c.requires.room);
+    }
 
 pub returns : goal.returns
 unfolding encode_letter
@@ -33,6 +38,6 @@ returns c =
     let count : length es ≡ n = length_table f n in
     let long : length body ≡ 8 * n = length_joined_entries es ∙ ap (λ (k : ℕ). 8 * k) count in
     let place = get_or c.args.results.now a 0 % 256 in
-    letter_laid (head_bytes a (get_or t.lots a 0) n) body c.args.part.now c.put-head.new.part c.put-entries.new.part
-    (5 + 8 * n) place c.put-head.ensures refl c.put-entries.ensures (omega arith) (omega (arith, c.requires.2))
+    letter_laid (head_bytes a (get_or t.lots a 0) n) body c.args.part.now c.put_head.new.part c.put_entries.new.part
+    (5 + 8 * n) place c.put_head.ensures refl c.put_entries.ensures (omega arith) (omega (arith, c.requires.room))
     ∙ ap (λ (k : ℕ). over (head_bytes a (get_or t.lots a 0) k ++ (body ++ place ∷ [])) c.args.part.now) (sym count)

@@ -11,20 +11,25 @@ pub loop-a-init : goal.loop-a-init
 unfolding flat
 loop-a-init c = refl
 
-pub slice-bounds-put-letter-count : goal.slice-bounds-put-letter-count
-slice-bounds-put-letter-count c =
+pub slice_bounds-put_letter-count : goal.slice_bounds-put_letter-count
+slice_bounds-put_letter-count c =
     let within = letter_within (tables_of c.args.round.now) c.args.round.now.started c.args.rows.now c.args.results.now c.args.benches.now c.loop-a.a c.loop-a-test.true in
-    omega (arith, c.requires.1)
+    omega (arith, c.requires.room)
 
-pub slice-bounds-put-letter-start : goal.slice-bounds-put-letter-start
-slice-bounds-put-letter-start c = slice-bounds-put-letter-count c
+pub slice_bounds-put_letter-start : goal.slice_bounds-put_letter-start
+slice_bounds-put_letter-start c = slice_bounds-put_letter-count c
 
-pub put-letter-requires : goal.put-letter-requires
-put-letter-requires c =
+pub put_letter-requires : goal.put_letter-requires
+put_letter-requires c =
     let t = tables_of c.args.round.now in
     let a = c.loop-a.a in
     let within = letter_within t c.args.round.now.started c.args.rows.now c.args.results.now c.args.benches.now a c.loop-a-test.true in
-    (c.loop-a-test.true, c.requires.0, omega (arith, length_rest c.loop-a.part (letter_at t a), c.requires.1), c.requires.2)
+    record {
+      applicant = c.loop-a-test.true;
+      ready = c.requires.ready;
+      room = omega (arith, length_rest c.loop-a.part (letter_at t a), c.requires.room);
+      told = c.requires.told;
+    }
 
 pub loop-a-preserved : goal.loop-a-preserved
 loop-a-preserved c =
@@ -32,5 +37,5 @@ loop-a-preserved c =
     let a = c.loop-a.a in
     let f = letter_bytes t c.args.rows.now c.args.results.now c.args.benches.now in
     let before = length_letters t c.args.round.now.started c.args.rows.now c.args.results.now c.args.benches.now a (omega arith) in
-    over_part (flat f a) (f a) c.args.part.now c.loop-a.part c.put-letter.new.part (letter_at t a) c.loop-a.invariant before c.put-letter.ensures
+    over_part (flat f a) (f a) c.args.part.now c.loop-a.part c.put_letter.new.part (letter_at t a) c.loop-a.invariant before c.put_letter.ensures
     ∙ ap (λ (xs : List ℕ). over xs c.args.part.now) (sym (flat_more f a))

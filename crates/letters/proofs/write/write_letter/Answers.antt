@@ -15,15 +15,15 @@ returns c =
     let t = tables_of round in
     let a = c.args.applicant in
     let bytes = letter_bytes t c.args.rows.now c.args.results.now c.args.benches.now a in
-    let long : length bytes ≡ c.letter-len-len.result =
-    length_letter t round.started c.args.rows.now c.args.results.now c.args.benches.now a ∙ sym c.letter-len-len.ensures
+    let long : length bytes ≡ c.letter_len-len.result =
+    length_letter t round.started c.args.rows.now c.args.results.now c.args.benches.now a ∙ sym c.letter_len-len.ensures
     in
-    let front : take c.letter-len-len.result c.put-letter.new.part ≡ bytes =
-    ap (take c.letter-len-len.result) c.put-letter.ensures ∙ take_at bytes _ _ long
+    let front : take c.letter_len-len.result c.put_letter.new.part ≡ bytes =
+    ap (take c.letter_len-len.result) c.put_letter.ensures ∙ take_at bytes _ _ long
     in
     record {
       told = search rules;
-      written = c.put-letter.ensures;
+      written = c.put_letter.ensures;
       accepted = λ settled.
           let P : List ℕ → Type 0 = λ b. Accepted b in
           subst P (sym front) (letters_settled t _ _ _ (tables_proper round) settled a c.if-applicant-round.false).1;
