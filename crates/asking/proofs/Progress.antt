@@ -4,7 +4,7 @@ use Rattle.std.proofs.Common.{◌≡◌, ℕ, ◌+◌, ◌<◌, ◌≤◌, Bool,
 use mathlib.Core.Path.{fun_ext}
 use Rattle.std.proofs.lemmas.Bool.Decides.{nat_tests}
 use Rattle.std.proofs.lemmas.Bool.{cases_lt, cases_eq}
-use Rattle.round.specs.Market.{Wish, Market, Within, Lawful, Reached, start, then, Closed, asked, here, final, asks, asks_at}
+use Rattle.round.specs.Market.{Wish, Market, Within, Lawful, Reached, start, then, Closed, asked, final, asks, asks_at}
 use Rattle.asking.specs.Asking.{gone, Going}
 use Rattle.round.proofs.Askers.{asked_from, here_parts, turned_from, refused_stays}
 use Rattle.round.proofs.Theorems.{same_end}

@@ -1,11 +1,11 @@
 -- The cuts of the end are what they are said to be: as many seats are taken as applicants are placed, and the last of these has the
 -- last seat.
-use Rattle.std.proofs.Common.{◌≡◌, ℕ, suc, ◌+◌, ◌-◌, ◌<◌, ◌≤◌, min, Bool, true, false, ◌&&◌, eqb, ltb, ◌≢◌, ◌⊎◌, List, [], ◌∷◌, length, get_or, sym, refl, ap, ◌∙◌, subst, inl, inr, arith}
-use Rattle.std.proofs.lemmas.Bool.{cases_eq, cases_lt, cond-true, lt-ltb, ltb-true}
+use Rattle.std.proofs.Common.{◌≡◌, ℕ, ◌<◌, ◌≤◌, Bool, true, false, ◌&&◌, ltb, ◌≢◌, ◌⊎◌, List, [], ◌∷◌, length, get_or, sym, refl, ap, ◌∙◌, inl, inr, arith}
+use Rattle.std.proofs.lemmas.Bool.{cases_eq, cond-true, lt-ltb, ltb-true}
 use Rattle.std.proofs.lemmas.Bool.Decides.{nat_tests}
-use Rattle.layout.specs.Tables.{Tables, Proper, applicants, workshops, places_at, rows, has}
+use Rattle.layout.specs.Tables.{Tables, Proper, applicants, workshops, places_at, has}
 use Rattle.round.specs.Places.{point}
-use Rattle.round.specs.Market.{Market, final, here, count, Steady}
+use Rattle.round.specs.Market.{Market, final, count, Steady}
 use Rattle.round.specs.ByPoints.{market_of, keeps_best}
 use Rattle.round.proofs.Best.{kept_facts, few, full}
 use Rattle.round.proofs.Count.{count_mono}
@@ -14,15 +14,15 @@ use Rattle.round.proofs.Stability.{kept_here, count_kept}
 use Rattle.points.specs.Standing.{no_row, row_of, points_of_row, lot_of_row, row_worth, worth, round_of, market}
 use Rattle.bench.specs.Best.{number, above}
 use Rattle.bench.proofs.Numbers.{has_here, has_there}
-use Rattle.asking.specs.Ended.{bench_of, bench_at, rows_at}
+use Rattle.asking.specs.Ended.{bench_of, bench_at}
 use Rattle.asking.proofs.Tabled.{length_lists, places_of_round, point_of_round}
 use Rattle.asking.proofs.Standings.{Of, row_small, row_of_applicant, row_worth_none}
 use Rattle.asking.proofs.Proper.{lawful, round_proper}
 use Rattle.asking.proofs.Gathered.{number_rows_at}
 use Rattle.asking.proofs.Benched.{length_bench_of, best_of_bench, kept_seated, seated_kept}
 use Rattle.cuts.specs.Cuts.{cut_of_bench}
-use Rattle.cuts.specs.Promised.{cut_at, own_points, placed_in, placed_count, Last, CutDefined, CutsDefined}
-use Rattle.cuts.specs.declared.Cut.TheVariants.{Open, Shut, Full}
+use Rattle.cuts.specs.Promised.{cut_at, own_points, placed_count, Last, CutsDefined}
+use Rattle.cuts.specs.declared.Cut.TheVariants.{Full}
 use Rattle.cuts.proofs.Seats.{last, last_least, has_last, last_passes, cut_none, cut_empty, cut_seated}
 use Rattle.cuts.proofs.Reaching.{asked_in}
 

@@ -1,26 +1,26 @@
 -- Who reaches the cut of a workshop in the end: whoever has a place there, and nobody who was turned down. So everybody reads off
 -- the cuts what it got.
-use Rattle.std.proofs.Common.{◌≡◌, ℕ, ◌+◌, ◌-◌, ◌<◌, ◌≤◌, Bool, true, false, cond, ◌&&◌, eqb, ltb, ◌≢◌, ◌⊎◌, List, length, get_or, Some, None, sym, refl, ap, ◌∙◌, subst, inl, inr, arith}
+use Rattle.std.proofs.Common.{◌≡◌, ℕ, ◌<◌, ◌≤◌, Bool, true, false, eqb, ltb, ◌≢◌, length, get_or, sym, refl, ap, ◌∙◌, inl, inr, arith}
 use Rattle.std.proofs.lemmas.List.{get_or_past}
-use Rattle.std.proofs.lemmas.Bool.{cases_eq, cases_lt, cases_Bool, cond-true, cond-false, lt-ltb, le-ltb, ltb-true, false≢true}
+use Rattle.std.proofs.lemmas.Bool.{cases_eq, cases_lt, cond-true, cond-false, lt-ltb, le-ltb, ltb-true, false≢true}
 use Rattle.std.proofs.lemmas.Bool.Decides.{nat_tests}
 use Rattle.layout.specs.Tables.{Tables, Proper, applicants, workshops, rows, list_length, list_at, has}
 use Rattle.round.specs.ByPoints.{worth_of}
-use Rattle.round.specs.Market.{Market, final, asked, here, placed_at, Lawful, Steady}
+use Rattle.round.specs.Market.{Market, final, asked, here, placed_at}
 use Rattle.round.proofs.Ends.{final_steady}
 use Rattle.points.specs.Standing.{no_row, row_of, points_of_row, lot_of_row, row_worth, market}
-use Rattle.bench.specs.Best.{number, above}
+use Rattle.bench.specs.Best.{above}
 use Rattle.bench.proofs.Numbers.{number_le, number_has}
 use Rattle.asking.specs.Ended.{told, bench_of, bench_at, rows_at}
 use Rattle.asking.proofs.Tabled.{market_m, market_len, market_entry, getD_list}
-use Rattle.asking.proofs.Standings.{Of, row_found, row_small, row_worth_none, row_worth_some}
+use Rattle.asking.proofs.Standings.{row_found, row_small, row_worth_none, row_worth_some}
 use Rattle.asking.proofs.Proper.{lawful}
 use Rattle.asking.proofs.Gathered.{rows_at_has}
 use Rattle.asking.proofs.Benched.{best_of_bench, kept_seated, seated_kept}
 use Rattle.cuts.specs.Cuts.{position, first_that}
 use Rattle.cuts.specs.Promised.{cut_at, own_points, reaches_cut, ToldByCuts}
 use Rattle.cuts.proofs.Firsts.{first_that_none, first_that_is}
-use Rattle.cuts.proofs.Seats.{last, last_least, last_passes, unreached_without, reached_from_last, unreached_from_last}
+use Rattle.cuts.proofs.Seats.{last_least, last_passes, unreached_without, reached_from_last, unreached_from_last}
 
 -- whoever has asked w in the end
 abbrev pub asked_in : Tables → ℕ → ℕ → Bool

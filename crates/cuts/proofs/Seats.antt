@@ -1,14 +1,14 @@
 -- The last seat of a bench, and the cut that it makes: whoever sits on the bench reaches it, and whoever is worth less than all who
 -- sit there does not.
-use Rattle.std.proofs.Common.{◌≡◌, ℕ, zero, suc, ◌+◌, ◌-◌, ◌<◌, ◌≤◌, Bool, true, false, cond, eqb, ltb, leb, ◌≢◌, ◌⊎◌, List, [], ◌∷◌, length, get_or, sym, refl, ap, ◌∙◌, subst, inl, inr, arith}
-use Rattle.std.proofs.lemmas.Bool.{cases_eq, cases_lt, cases_Bool, eq-eqb, ne_eqb, lt-ltb, le-ltb, ltb-true, false≢true}
+use Rattle.std.proofs.Common.{◌≡◌, ℕ, zero, suc, ◌-◌, ◌<◌, ◌≤◌, Bool, true, false, ◌≢◌, List, [], ◌∷◌, length, get_or, refl, ap, inl, inr, arith}
+use Rattle.std.proofs.lemmas.Bool.{cases_eq, cases_lt, cases_Bool, lt-ltb, false≢true}
 use Rattle.std.proofs.lemmas.Bool.Decides.{nat_tests}
 use Rattle.layout.specs.Tables.{Tables, has}
 use Rattle.round.specs.ByPoints.{worth_of}
 use Rattle.points.specs.Standing.{no_row, points_of_row, lot_of_row, row_worth}
 use Rattle.bench.specs.Best.{number, above, BestFirst}
 use Rattle.bench.proofs.Numbers.{has_here, has_there, has_cases, number_less}
-use Rattle.cuts.specs.Cuts.{cut_of_row, cut_of_bench, reached}
+use Rattle.cuts.specs.Cuts.{cut_of_bench, reached}
 use Rattle.cuts.specs.declared.Cut.{Cut}
 use Rattle.cuts.specs.declared.Cut.TheVariants.{Open, Shut, Full}
 

@@ -2,7 +2,7 @@
 use Rattle.std.proofs.Common.{◌≡◌, ℕ, ◌+◌, ◌-◌, ◌^◌, ◌<◌, ◌≤◌, List, length, get_or, sym, ◌∙◌, ⊎_elim, arith}
 use Rattle.std.proofs.lemmas.List.{get_or_past}
 use Rattle.std.proofs.lemmas.Bool.{cases_lt}
-use Rattle.layout.specs.Tables.{Tables, Proper, Limited, Seated, Started, Named, Distinct, Drawn, Apart, Sheeted, Rowed, Sorted, applicants, workshops, rows, list_at}
+use Rattle.layout.specs.Tables.{Proper, Limited, Seated, Started, Named, Distinct, Drawn, Apart, Sheeted, Rowed, Sorted, applicants, workshops, rows, list_at}
 use Rattle.layout.specs.Bytes.{byte, word, applicants_in, workshops_in, record_at, lot_in, count_in, rows_in, row_at, row_workshop_in, seats_before, start_of, rows_before, tables_in}
 use Rattle.layout.specs.Encode.{BytesOnly}
 use Rattle.layout.proofs.Flats.{step_of}

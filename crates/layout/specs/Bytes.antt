@@ -1,6 +1,6 @@
 -- The bytes of a round: where each number stands, what it says, and the first fault. Everything is a total function of the bytes;
 -- past their end they read as 0. In this order: the layout; the tables that the bytes say; faults in the order of the bytes.
-use Rattle.std.specs.Prelude.{ℕ, zero, suc, ◌+◌, ◌-◌, ◌*◌, ◌<◌, ◌≤◌, Bool, true, false, cond, not, ◌&&◌, ◌||◌, List, length, Some, None, Option, Result, ◌==◌, nat_le, nat_lt, slice_index}
+use Rattle.std.specs.Prelude.{ℕ, zero, suc, ◌+◌, ◌*◌, Bool, false, cond, not, ◌&&◌, ◌||◌, List, length, Some, None, Option, Result, ◌==◌, nat_le, nat_lt, slice_index}
 use Rattle.layout.specs.Slices.{table, flat, outcome, or_else}
 use Rattle.layout.specs.Tables.{Tables, tables, most_applicants, most_workshops, most_places, most_entries, most_rows}
 use Rattle.layout.specs.declared.Refusal.{Refusal}

@@ -1,13 +1,13 @@
 -- An entry at the front of a part, read and written: each is the other's inverse.
-use Rattle.std.proofs.Common.{◌≡◌, ℕ, ◌+◌, ◌*◌, ◌/◌, ◌%◌, ◌^◌, ◌<◌, ◌≤◌, ◌⊎◌, List, [], ◌∷◌, ◌++◌, length, get_or, drop, Some, None, sym, refl, ap, ◌∙◌, inl, inr, arith}
+use Rattle.std.proofs.Common.{◌≡◌, ℕ, ◌+◌, ◌*◌, ◌/◌, ◌%◌, ◌≤◌, ◌⊎◌, List, ◌++◌, length, drop, None, sym, refl, inl, inr, arith}
 use Rattle.std.proofs.lemmas.List.{drop_more}
 use Rattle.std.proofs.lemmas.Bool.Decides.{nat_tests}
 use Rattle.layout.specs.Bytes.{byte, word}
-use Rattle.layout.specs.Encode.{two_bytes, BytesOnly}
+use Rattle.layout.specs.Encode.{BytesOnly}
 use Rattle.layout.proofs.Written.{drop_word}
 use Rattle.cuts.specs.declared.Cut.{Cut}
 use Rattle.cuts.specs.declared.Cut.TheVariants.{Open, Shut, Full}
-use Rattle.letters.specs.Letter.{kind_of, cut_points, cut_lot, cut_of_numbers, entry_bytes, entry_in, SmallEntry}
+use Rattle.letters.specs.Letter.{kind_of, cut_points, cut_lot, cut_of_numbers, entry_bytes, entry_in}
 use Rattle.letters.specs.Faults.{entry_fault}
 use Rattle.letters.specs.declared.entry.Entry.{Entry}
 

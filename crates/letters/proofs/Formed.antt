@@ -1,14 +1,13 @@
 -- A letter without a fault, as facts: what is there, and what holds of its numbers.
-use Rattle.std.proofs.Common.{◌≡◌, ℕ, ◌+◌, ◌*◌, ◌<◌, ◌≤◌, Bool, true, false, eqb, ◌⊎◌, List, length, get_or, drop, Some, None, Decides, Option, sym, refl, ap, ◌∙◌, inl, inr, arith}
+use Rattle.std.proofs.Common.{◌≡◌, ℕ, ◌+◌, ◌<◌, ◌≤◌, false, eqb, ◌⊎◌, List, length, Some, None, Decides, Option, refl, ap, arith}
 use Rattle.std.proofs.lemmas.Bool.Decides.{nat_tests, Decides-eqb, Decides-below_or}
 use Rattle.layout.specs.Slices.{or_else}
-use Rattle.layout.specs.Bytes.{byte, word, refuse, first_of}
+use Rattle.layout.specs.Bytes.{byte, refuse, first_of}
 use Rattle.layout.specs.Tables.{most_entries}
-use Rattle.layout.specs.declared.Refusal.{Refusal}
 use Rattle.layout.specs.declared.Refusal.TheVariants.{Malformed}
 use Rattle.layout.proofs.Firsts.{some_is_not_none, or_else_none, none_or_else, refuse_none, none_refuse, first_of_none, none_first_of}
 use Rattle.letters.specs.Letter.{count_in, entry_at, place_at, part_at}
-use Rattle.letters.specs.Faults.{entry_fault, within, missing, head_fault, workshop_seen, judged, listed_fault, end_fault, letter_fault}
+use Rattle.letters.specs.Faults.{entry_fault, within, missing, head_fault, workshop_seen, listed_fault, end_fault, letter_fault}
 use Rattle.letters.proofs.Entries.{Clean, clean_from_none, none_from_clean}
 
 pub record Formed (b : List ℕ) : Type 0 where

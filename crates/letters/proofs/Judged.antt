@@ -1,5 +1,5 @@
 -- The checker's verdict on the bytes of a letter is that on the letter.
-use Rattle.std.proofs.Common.{◌≡◌, ℕ, zero, suc, ◌<◌, Bool, true, false, cond, not, eqb, List, map, length, get_or, Some, None, Ok, Err, Option, Result, sym, refl, ap, ◌∙◌, arith}
+use Rattle.std.proofs.Common.{◌≡◌, ℕ, ◌<◌, Bool, true, false, cond, not, eqb, List, get_or, None, Ok, Err, Option, Result, sym, refl, ap, ◌∙◌, arith}
 use Rattle.std.proofs.lemmas.List.{get_or-map}
 use Rattle.std.proofs.lemmas.Bool.Decides.{nat_tests}
 use Rattle.layout.specs.Slices.{or_else, outcome, table}
@@ -17,7 +17,7 @@ use Rattle.letters.specs.Exact.{reached_with, reached_list, first_place, judgeme
 use Rattle.letters.specs.declared.entry.Entry.{Entry}
 use Rattle.letters.specs.declared.check.Verdict.{Verdict}
 use Rattle.letters.proofs.Reading.{none_from_ok}
-use Rattle.letters.proofs.Formed.{Formed, formed_from_none, none_from_formed}
+use Rattle.letters.proofs.Formed.{formed_from_none, none_from_formed}
 use Rattle.letters.proofs.RoundTrip.{blank, encode_letter_in, well_formed_in, formed_encode, letter_in_encode}
 
 -- the bytes and the letter that they say have the same first entry that is reached

@@ -1,10 +1,10 @@
 -- Steps of reading a letter: what a part's reader says of the letter, and one entry more.
-use Rattle.std.proofs.Common.{◌≡◌, ℕ, zero, suc, ◌+◌, ◌-◌, ◌*◌, ◌<◌, ◌≤◌, Bool, true, false, cond, ◌&&◌, eqb, List, length, get_or, take, drop, set, Some, None, Ok, Err, Option, Result, refl, inl, inr, add-one, arith}
+use Rattle.std.proofs.Common.{◌≡◌, ℕ, ◌+◌, ◌-◌, ◌<◌, Bool, true, false, cond, ◌&&◌, eqb, List, length, get_or, take, drop, set, Some, None, Ok, Err, Option, Result, refl, inl, inr, add-one, arith}
 use Rattle.std.proofs.lemmas.List.{take_rest, get_or-set_same, get_or-set_other}
 use Rattle.std.proofs.lemmas.Bool.{cases_eq}
 use Rattle.std.proofs.lemmas.Bool.Decides.{nat_tests}
 use Rattle.layout.specs.Slices.{outcome, or_else}
-use Rattle.layout.specs.Bytes.{byte, first_of}
+use Rattle.layout.specs.Bytes.{byte}
 use Rattle.layout.specs.declared.Refusal.{Refusal}
 use Rattle.letters.specs.Letter.{entry_at, entry_in}
 use Rattle.letters.specs.Faults.{entry_fault, workshop_seen}

@@ -1,22 +1,22 @@
 -- Reading and writing a letter are inverse to each other.
-use Rattle.std.proofs.Common.{◌≡◌, ℕ, zero, suc, ◌+◌, ◌*◌, ◌/◌, ◌%◌, ◌^◌, ◌<◌, ◌≤◌, Bool, true, false, ◌⊎◌, List, [], ◌∷◌, ◌++◌, map, length, get_or, drop, Some, None, sym, refl, ap, ◌∙◌, inl, inr, add-zero, add-one, arith}
-use Rattle.std.specs.List.{flat_map, AllByRecursion as All}
-use Rattle.std.proofs.lemmas.List.{drop_more, drop_all, drop-drop, length-drop, length-map, get_or-drop, get_or-map}
-use Rattle.std.proofs.ByRecursion.{All-get_or, All-from_get_or}
-use Rattle.std.proofs.lemmas.Bool.Decides.{nat_tests, not_from_Decides}
+use Rattle.std.proofs.Common.{◌≡◌, ℕ, zero, suc, ◌+◌, ◌*◌, ◌<◌, false, List, [], ◌∷◌, ◌++◌, map, length, get_or, drop, sym, refl, ap, ◌∙◌, add-zero, add-one, arith}
+use Rattle.std.specs.List.{flat_map}
+use Rattle.std.proofs.lemmas.List.{drop_more, drop_all, drop-drop, length-map, get_or-drop, get_or-map}
+use Rattle.std.proofs.ByRecursion.{All-from_get_or}
+use Rattle.std.proofs.lemmas.Bool.Decides.{not_from_Decides}
 use Rattle.layout.specs.Slices.{table, flat}
 use Rattle.layout.specs.Bytes.{byte, word}
-use Rattle.layout.specs.Encode.{two_bytes, BytesOnly}
-use Rattle.layout.proofs.Flats.{length_table, getD_table, is_table, flat_more, drop_is_flat, drop_flat_at, drop_flat_all}
+use Rattle.layout.specs.Encode.{BytesOnly}
+use Rattle.layout.proofs.Flats.{length_table, getD_table, is_table, drop_is_flat, drop_flat_at, drop_flat_all}
 use Rattle.layout.proofs.Written.{drop_word}
 use Rattle.layout.proofs.ReadProper.{byte_small, word_small}
 use Rattle.layout.proofs.Seen.{no_repeat_apart, apart_no_repeat, false_from_decides}
 use Rattle.cuts.specs.declared.Cut.TheVariants.{Open}
-use Rattle.letters.specs.Letter.{Letter, WellFormed, SmallEntry, head_bytes, entry_bytes, encode_letter, count_in, entry_at, place_at, part_at, entry_in, letter_in}
-use Rattle.letters.specs.Faults.{workshop_seen, letter_fault}
+use Rattle.letters.specs.Letter.{Letter, WellFormed, SmallEntry, entry_bytes, encode_letter, count_in, entry_at, place_at, part_at, entry_in, letter_in}
+use Rattle.letters.specs.Faults.{workshop_seen}
 use Rattle.letters.specs.declared.entry.Entry.{Entry}
 use Rattle.letters.proofs.Entries.{Clean, word_two_bytes, cut_points_cut_from, cut_lot_cut_from, part_is_entry, clean_entry_bytes, entry_in_entry_bytes}
-use Rattle.letters.proofs.Formed.{Formed, formed_from_none, none_from_formed, workshop_seen_decides}
+use Rattle.letters.proofs.Formed.{Formed, workshop_seen_decides}
 use Rattle.letters.proofs.Writing.{joined_table_more, length_encode_letter}
 
 -- the entries one after the other, by position

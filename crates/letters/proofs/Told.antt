@@ -1,5 +1,5 @@
 -- The letters of a round that was asked to the end: what is written is what concerns the applicant, and the checker accepts it.
-use Rattle.std.proofs.Common.{◌≡◌, ℕ, ◌+◌, ◌-◌, ◌*◌, ◌%◌, ◌^◌, ◌<◌, ◌≤◌, Bool, true, false, cond, eqb, ◌⊎◌, List, [], ◌∷◌, ◌++◌, map, length, get_or, take, drop, is_ok, Result, sym, refl, ap, ◌∙◌, subst, inl, inr, arith}
+use Rattle.std.proofs.Common.{◌≡◌, ℕ, ◌+◌, ◌-◌, ◌%◌, ◌^◌, ◌<◌, ◌≤◌, Bool, true, false, cond, eqb, ◌⊎◌, List, ◌++◌, map, length, get_or, take, drop, is_ok, Result, sym, refl, ap, ◌∙◌, inl, inr, arith}
 use Rattle.std.proofs.lemmas.List.{take_at, take-append-drop, get_or-take, get_or_past, get_or-map, length-map}
 use Rattle.std.proofs.ByRecursion.{All-from_get_or}
 use Rattle.std.proofs.lemmas.Bool.{cases_lt, eq-eqb, cond-true}
@@ -9,24 +9,22 @@ use Rattle.layout.specs.Slices.{table, flat}
 use Rattle.layout.specs.Tables.{Tables, Proper, applicants, workshops, rows, places_at, list_length, list_at}
 use Rattle.layout.proofs.Flats.{length_table, getD_table, table_same, is_table, drop_flat_at}
 use Rattle.round.specs.Market.{final, placed_at}
-use Rattle.round.proofs.Ends.{final_steady}
 use Rattle.points.specs.Standing.{no_row, row_of, points_of_row, lot_of_row, market}
 use Rattle.points.proofs.Lots.{lot_small}
 use Rattle.asking.specs.Ended.{told, bench_at, benches_at, benches_of}
 use Rattle.asking.proofs.Tabled.{market_len, getD_list, length_list}
-use Rattle.asking.proofs.Proper.{lawful}
 use Rattle.asking.proofs.Benched.{length_bench_of}
 use Rattle.asking.proofs.Found.{row_in_slice, entry_named}
 use Rattle.cuts.specs.Cuts.{cut_of_bench, position, first_that}
-use Rattle.cuts.specs.Promised.{cut_at, own_points, reaches_cut}
+use Rattle.cuts.specs.Promised.{cut_at, reaches_cut}
 use Rattle.cuts.specs.declared.Cut.{Cut}
 use Rattle.cuts.specs.declared.Cut.TheVariants.{Open, Shut, Full}
 use Rattle.cuts.proofs.Firsts.{first_that_same}
 use Rattle.cuts.proofs.Reaching.{told_by_cuts}
-use Rattle.letters.specs.Letter.{Letter, WellFormed, SmallEntry, cut_points, cut_lot, encode_letter}
-use Rattle.letters.specs.Exact.{reached_with, reached_list, first_place, judged_bytes}
-use Rattle.letters.specs.Written.{all_seats, bench_in, entry_from, entries_from, letter_from, letter_bytes}
-use Rattle.letters.specs.Settled.{Settled, own_entry, own_letter, Accepted, LettersSettled, SameFor, NothingElse}
+use Rattle.letters.specs.Letter.{WellFormed, SmallEntry, cut_points, cut_lot, encode_letter}
+use Rattle.letters.specs.Exact.{reached_with, reached_list, first_place}
+use Rattle.letters.specs.Written.{all_seats, bench_in, entry_from, letter_from}
+use Rattle.letters.specs.Settled.{Settled, own_entry, own_letter, Accepted, LettersSettled, NothingElse}
 use Rattle.letters.specs.declared.check.Verdict.{Verdict}
 use Rattle.letters.specs.declared.entry.Entry.{Entry}
 use Rattle.letters.proofs.RoundTrip.{blank, workshop_of, letter_same}

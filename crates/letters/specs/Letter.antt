@@ -1,6 +1,6 @@
 -- The bytes of a letter: where each number stands and what it says, as total functions of the bytes; and a letter written out.
 -- Definitions only.
-use Rattle.std.specs.Prelude.{◌≡◌, ℕ, ◌+◌, ◌*◌, ◌^◌, ◌<◌, ◌≤◌, Bool, true, false, cond, ◌⊎◌, List, [], ◌∷◌, ◌++◌, map, length, drop, ◌==◌}
+use Rattle.std.specs.Prelude.{◌≡◌, ℕ, ◌+◌, ◌*◌, ◌^◌, ◌<◌, ◌≤◌, true, cond, ◌⊎◌, List, [], ◌∷◌, ◌++◌, map, length, drop, ◌==◌}
 use Rattle.std.specs.List.{flat_map, AllByRecursion as All}
 use Rattle.layout.specs.Slices.{table}
 use Rattle.layout.specs.Tables.{no_repeat, most_entries}

@@ -1,7 +1,7 @@
 -- The way of keeping by points: the best of those who asked, as many as there are places. A worth is one number for points and
 -- lot together: more points come first, then the lower lot; 0 is for those without points, who are never kept.
 -- And a given round as a market. Definitions only.
-use Rattle.std.specs.Prelude.{ℕ, ◌+◌, ◌-◌, ◌*◌, Bool, ◌&&◌, List, [], length, nat_lt, slice_index, slice_index_or}
+use Rattle.std.specs.Prelude.{ℕ, ◌+◌, ◌-◌, ◌*◌, Bool, ◌&&◌, [], length, nat_lt, slice_index, slice_index_or}
 use Rattle.round.specs.Places.{Round, point, nowhere, pick}
 use Rattle.round.specs.Promise.{rank}
 use Rattle.round.specs.Market.{Wish, Market, count}

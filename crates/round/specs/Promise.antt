@@ -1,5 +1,5 @@
 -- What the office promises. Each is a statement, a type whose proof is owed. Assumes nothing.
-use Rattle.std.specs.Prelude.{◌≡◌, ℕ, zero, suc, ◌+◌, ◌*◌, ◌<◌, ◌≤◌, Bool, true, false, ◌≢◌, ◌⊎◌, List, [], ◌∷◌, length, ◌==◌, slice_index, slice_index_or, slice_set}
+use Rattle.std.specs.Prelude.{◌≡◌, ℕ, zero, suc, ◌+◌, ◌<◌, ◌≤◌, ◌≢◌, ◌⊎◌, List, [], ◌∷◌, length, ◌==◌, slice_index, slice_index_or, slice_set}
 use Rattle.round.specs.Places.{Round, point, nowhere, result, steps, step, total, pick}
 
 unfoldable pub Distinct : ℕ → List ℕ → Type 0

@@ -1,6 +1,6 @@
 -- From record to record by the counts; the entries are what the records have beyond three bytes each.
-use Rattle.std.proofs.Common.{◌≡◌, ℕ, ◌+◌, ◌*◌, sym, ap, ◌∙◌, arith}
-use Rattle.layout.specs.Bytes.{word, byte, applicants_in, start_of, record_at}
+use Rattle.std.proofs.Common.{◌≡◌, ℕ, ◌+◌, ap, ◌∙◌, arith}
+use Rattle.layout.specs.Bytes.{word, byte, applicants_in, record_at}
 use Rattle.layout.proofs.Offsets.{record_at_none, record_at_more, record_at_is}
 use Rattle.codec.proofs.Checked.{same_sizes}
 use Rattle.codec.proofs.measuring.measure.Goals as goal

@@ -1,5 +1,5 @@
 -- Each entry is read, judged by the workshops before it, and looked at for the first that is reached.
-use Rattle.std.proofs.Common.{◌≡◌, ℕ, ◌<◌, Bool, false, cond, ◌&&◌, eqb, get_or, Some, None, sym, refl, ap, ◌∙◌, add-zero, arith}
+use Rattle.std.proofs.Common.{◌≡◌, ℕ, ◌<◌, Bool, false, cond, ◌&&◌, eqb, get_or, sym, refl, ap, ◌∙◌, add-zero, arith}
 use Rattle.std.proofs.lemmas.List.{length-set, get_or-replicate, get_or-drop}
 use Rattle.layout.specs.Bytes.{byte, first_of}
 use Rattle.layout.proofs.Firsts.{first_of_at, first_of_more}

@@ -1,5 +1,5 @@
 -- So far there is no fault, the workshops of the entries so far are marked, and the first reached of them is known.
-use Rattle.std.proofs.Common.{◌≡◌, ℕ, ◌<◌, Bool, false, length, get_or, None}
+use Rattle.std.proofs.Common.{◌≡◌, ℕ, ◌<◌, false, length, get_or, None}
 use Rattle.layout.specs.Bytes.{first_of}
 use Rattle.cuts.specs.Cuts.{first_reached}
 use Rattle.letters.specs.Faults.{listed_fault, workshop_seen, reached_in}

@@ -7,23 +7,23 @@ use Rattle.letters.proofs.Reading.{none_from_ok, some_from_err}
 use Rattle.texts.specs.Words.{fault_in_letter}
 use Rattle.texts.proofs.letter_words.explain.Goals as goal
 
-pub in-words-requires : goal.in-words-requires
+pub in_words-requires : goal.in_words-requires
 unfolding judged_bytes
-in-words-requires c =
+in_words-requires c =
     let b = c.args.letter.now in
-    let right = none_from_ok (or_else (letter_fault b) (place_fault b)) (verdict_in b) c.in-Ok.verdict (sym c.in-Ok.is ∙ c.check-letter.ensures.told) in
+    let right = none_from_ok (or_else (letter_fault b) (place_fault b)) (verdict_in b) c.in-Ok.verdict (sym c.in-Ok.is ∙ c.check_letter.ensures.told) in
     record { whole = (or_else_none (letter_fault b) (place_fault b) right.0).0; read = right.1 }
 
 pub returns-in-Err : goal.returns-in-Err
 unfolding fault_in_letter judged_bytes
 returns-in-Err c =
     some_from_err (fault_in_letter c.args.letter.now) (verdict_in c.args.letter.now) c.in-Err.e
-    (sym c.in-Err.is ∙ c.check-letter.ensures.told)
+    (sym c.in-Err.is ∙ c.check_letter.ensures.told)
 
-pub returns-in-Ok-in-words : goal.returns-in-Ok-in-words
+pub returns-in-Ok-in_words : goal.returns-in-Ok-in_words
 unfolding fault_in_letter judged_bytes
-returns-in-Ok-in-words c = (
+returns-in-Ok-in_words c = (
   (none_from_ok (fault_in_letter c.args.letter.now) (verdict_in c.args.letter.now) c.in-Ok.verdict
-      (sym c.in-Ok.is ∙ c.check-letter.ensures.told)).0,
-  c.in-Ok-in-words.ensures,
+      (sym c.in-Ok.is ∙ c.check_letter.ensures.told)).0,
+  c.in-Ok-in_words.ensures,
 )

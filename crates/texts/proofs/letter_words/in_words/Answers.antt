@@ -9,5 +9,5 @@ unfolding words_of accepted_line
 returns c =
     four_parts _ _ _ _ _ _ _ _ _ _ c.new-text.ensures.bytes
     (ap (λ (v : Verdict). whose_line v.applicant v.lot.0) c.requires.read)
-    c.in-ok-push-whose.ensures c.in-ok-push-wishes.ensures
-    c.in-ok-push-place.ensures c.in-ok-push-str.ensures.bytes
+    c.in_ok-push_whose.ensures c.in_ok-push_wishes.ensures
+    c.in_ok-push_place.ensures c.in_ok-push_str.ensures.bytes

@@ -11,5 +11,5 @@ unreachable-requires c =
 pub returns : goal.returns
 returns c =
     let there = entry_whole c.args.letter.now c.requires.whole c.args.j c.requires.within in
-    let line = line_of_entry c.args.letter.now c.args.j c.in-Some.entry c.args.lot c.reaches-reached.result (sym c.in-Some.is ∙ c.entry-at.ensures ∙ there) c.requires.lot c.reaches-reached.ensures in
-    c.in-ok-push-wish.ensures ∙ ap (λ (x : List ℕ). string_bytes c.args.text.now ++ x) line
+    let line = line_of_entry c.args.letter.now c.args.j c.in-Some.entry c.args.lot c.reaches-reached.result (sym c.in-Some.is ∙ c.entry_at.ensures ∙ there) c.requires.lot c.reaches-reached.ensures in
+    c.in_ok-push_wish.ensures ∙ ap (λ (x : List ℕ). string_bytes c.args.text.now ++ x) line

@@ -7,7 +7,7 @@ pub returns-then-place-eq255 : goal.returns-then-place-eq255
 unfolding got_none_line
 returns-then-place-eq255 c =
     let line = line_of_none c.args.letter.now c.args.place c.requires.place c.if-place-eq255.true in
-    c.in-ok-push-str.ensures.bytes ∙ ap (λ (x : List ℕ). string_bytes c.args.text.now ++ x) line
+    c.in_ok-push_str.ensures.bytes ∙ ap (λ (x : List ℕ). string_bytes c.args.text.now ++ x) line
 
 pub unreachable-requires : goal.unreachable-requires
 unreachable-requires c =
@@ -18,5 +18,5 @@ unreachable-requires c =
 pub returns : goal.returns
 returns c =
     let there = got_whole c.args.letter.now c.requires.whole c.args.place c.requires.place c.if-place-eq255.false in
-    let line = line_of_place c.args.letter.now c.args.place c.requires.place c.if-place-eq255.false c.in-Some.entry (sym c.in-Some.is ∙ c.entry-at.ensures ∙ there) in
-    c.in-ok-push-got.ensures ∙ ap (λ (x : List ℕ). string_bytes c.args.text.now ++ x) line
+    let line = line_of_place c.args.letter.now c.args.place c.requires.place c.if-place-eq255.false c.in-Some.entry (sym c.in-Some.is ∙ c.entry_at.ensures ∙ there) in
+    c.in_ok-push_got.ensures ∙ ap (λ (x : List ℕ). string_bytes c.args.text.now ++ x) line
