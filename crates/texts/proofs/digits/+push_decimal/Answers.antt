@@ -10,7 +10,7 @@ more was mid end ds all x d e f =
 pub returns-then-n-lt10 : goal.returns-then-n-lt10
 returns-then-n-lt10 t c =
     let d = decimal_digit c.args.n c.if-n-lt10.true in
-    let h = c.in-ok-push-digit.ensures in
+    let h = c.in_ok-push_digit.ensures in
     cc
 
 pub returns : goal.returns
@@ -18,5 +18,5 @@ returns t c =
     let fits : c.args.n < 2 ^ 64 = omega arith in
     more _ _ _ _ _ _
     (decimal_step c.args.n c.if-n-lt10.false fits)
-    c.in-ok-push-decimal.ensures
-    c.in-ok-push-digit-2.ensures
+    c.in_ok-push_decimal.ensures
+    c.in_ok-push_digit-2.ensures
