@@ -99,8 +99,8 @@ fn read_into(sheets: Sheets, bytes: &[u8]) -> Result<OwnedRound, Fault>
 // The front of the memory that holds a round of these sizes.
 fn cut_to_size(sheets: Sheets, sizes: Sizes) -> OwnedRound
     requires proper { Proper (fronts_of sizes sheets) }
-    requires applicants_bound { sizes.applicants < 2 ^ 32 }
-    requires workshops_bound { sizes.workshops < 2 ^ 32 }
+    requires few_applicants { sizes.applicants < 2 ^ 32 }
+    requires few_workshops { sizes.workshops < 2 ^ 32 }
     ensures { tables_owned result ≡ fronts_of sizes sheets }
 {
     let Sheets {

@@ -15,7 +15,7 @@ pub returns-then-told-eq255 : goal.returns-then-told-eq255
 returns-then-told-eq255 c =
     let t = tables_settled c.args.settled.now in
     let line = line_none t t c.results.result.now (proper_owned c.args.settled.now.held) refl c.results.ensures c.args.a c.requires c.if-told-eq255.true in
-    IfOk-weaker c.push-none.result _ _ (λ _ h. h ∙ ap (λ (x : List ℕ). string_bytes c.args.text.now ++ x) line) c.push-none.ensures
+    IfOk-weaker c.push_none.result _ _ (λ _ h. h ∙ ap (λ (x : List ℕ). string_bytes c.args.text.now ++ x) line) c.push_none.ensures
 
 pub bounds-round-round : goal.bounds-round-round
 bounds-round-round c =
@@ -26,4 +26,4 @@ pub returns : goal.returns
 returns c =
     let line = (line_placed (tables_settled c.args.settled.now) (tables_of c.round-round.result) c.results.result.now
     (proper_owned c.args.settled.now.held) c.round-round.ensures c.results.ensures c.args.a c.requires c.if-told-eq255.false).0 in
-    IfOk-weaker c.push-placed.result _ _ (λ _ h. h ∙ ap (λ (x : List ℕ). string_bytes c.args.text.now ++ x) line) c.push-placed.ensures
+    IfOk-weaker c.push_placed.result _ _ (λ _ h. h ∙ ap (λ (x : List ℕ). string_bytes c.args.text.now ++ x) line) c.push_placed.ensures

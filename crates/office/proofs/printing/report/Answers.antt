@@ -6,5 +6,5 @@ use Rattle.office.proofs.printing.report.Goals as goal
 pub returns : goal.returns
 unfolding text_of
 returns c =
-    three_parts _ _ _ _ _ _ _ _ c.in-ok-text.ensures.bytes (ap₂ head_line c.asks.ensures c.placed.ensures)
-    c.in-ok-push-head.ensures c.in-ok-push-applicants.ensures c.in-ok-push-cuts.ensures
+    three_parts _ _ _ _ _ _ _ _ c.in_ok-text.ensures.bytes (ap₂ head_line c.asks.ensures c.placed.ensures)
+    c.in_ok-push_head.ensures c.in_ok-push_applicants.ensures c.in_ok-push_cuts.ensures

@@ -6,10 +6,10 @@ use Rattle.office.proofs.Refills.{items_refilled, fronts_same}
 use Rattle.office.proofs.Roomy.{roomy, sizes_small, decode_read, fault_refused}
 use Rattle.office.proofs.reading.read_into.Goals as goal
 
-pub cut-to-size-requires : goal.cut-to-size-requires
-cut-to-size-requires c =
+pub cut_to_size-requires : goal.cut_to_size-requires
+cut_to_size-requires c =
     let small =
-    sizes_small c.args.bytes.now c.deref-mut.result.now c.deref-mut-2.result.now c.deref-mut-3.result.now c.deref-mut-4.result.now c.deref-mut-5.result.now c.deref-mut-6.result.now c.deref-mut-7.result.now c.in-Ok.sizes (sym c.in-Ok.is ∙ c.read.ensures.answer)
+    sizes_small c.args.bytes.now c.deref_mut.result.now c.deref_mut-2.result.now c.deref_mut-3.result.now c.deref_mut-4.result.now c.deref_mut-5.result.now c.deref_mut-6.result.now c.deref_mut-7.result.now c.in-Ok.sizes (sym c.in-Ok.is ∙ c.read.ensures.answer)
     in
     let same =
     fronts_same c.in-Ok.sizes _ _ _ _ _ _ _ _ _ _ _ _ _ _
@@ -21,12 +21,16 @@ cut-to-size-requires c =
     (items_refilled c.args.sheets.row_applicants c.read.new.row_applicants (omega arith))
     (items_refilled c.args.sheets.row_points c.read.new.row_points (omega arith))
     in
-    (subst (λ (t : Tables). Proper t) (sym same) c.in-Ok.ensures.ready.proper, small.0, small.1)
+    record {
+      proper = subst (λ (t : Tables). Proper t) (sym same) c.in-Ok.ensures.ready.proper;
+      few_applicants = small.0;
+      few_workshops = small.1;
+    }
 
 pub returns-in-Err : goal.returns-in-Err
 returns-in-Err c =
-    fault_refused c.args.bytes.now c.deref-mut.result.now c.deref-mut-2.result.now c.deref-mut-3.result.now c.deref-mut-4.result.now c.deref-mut-5.result.now c.deref-mut-6.result.now c.deref-mut-7.result.now c.in-Err.e
-    (roomy c.args.bytes.now c.deref-mut.result.now c.deref-mut-2.result.now c.deref-mut-3.result.now c.deref-mut-4.result.now c.deref-mut-5.result.now c.deref-mut-6.result.now c.deref-mut-7.result.now
+    fault_refused c.args.bytes.now c.deref_mut.result.now c.deref_mut-2.result.now c.deref_mut-3.result.now c.deref_mut-4.result.now c.deref_mut-5.result.now c.deref_mut-6.result.now c.deref_mut-7.result.now c.in-Err.e
+    (roomy c.args.bytes.now c.deref_mut.result.now c.deref_mut-2.result.now c.deref_mut-3.result.now c.deref_mut-4.result.now c.deref_mut-5.result.now c.deref_mut-6.result.now c.deref_mut-7.result.now
     (omega arith) (omega arith) (omega arith) (omega arith) (omega arith) (omega arith) (omega arith))
     (sym c.in-Err.is ∙ c.read.ensures.answer)
 
@@ -42,5 +46,5 @@ returns-in-Ok c =
     (items_refilled c.args.sheets.row_applicants c.read.new.row_applicants (omega arith))
     (items_refilled c.args.sheets.row_points c.read.new.row_points (omega arith))
     in
-    decode_read c.args.bytes.now c.deref-mut.result.now c.deref-mut-2.result.now c.deref-mut-3.result.now c.deref-mut-4.result.now c.deref-mut-5.result.now c.deref-mut-6.result.now c.deref-mut-7.result.now c.in-Ok.sizes (tables_owned c.cut-to-size.result)
-    (sym c.in-Ok.is ∙ c.read.ensures.answer) (c.cut-to-size.ensures ∙ same ∙ c.in-Ok.ensures.whole)
+    decode_read c.args.bytes.now c.deref_mut.result.now c.deref_mut-2.result.now c.deref_mut-3.result.now c.deref_mut-4.result.now c.deref_mut-5.result.now c.deref_mut-6.result.now c.deref_mut-7.result.now c.in-Ok.sizes (tables_owned c.cut_to_size.result)
+    (sym c.in-Ok.is ∙ c.read.ensures.answer) (c.cut_to_size.ensures ∙ same ∙ c.in-Ok.ensures.whole)

@@ -20,17 +20,17 @@ returns c =
     let counts = (none_from_ok _ _ c.in-Ok.outcome (sym c.in-Ok.is ∙ c.run.ensures.value)).1 in
     record {
       found =
-          items_refilled c.in-ok-rows.rows c.run.new.rows (omega arith)
+          items_refilled c.in_ok-rows.rows c.run.new.rows (omega arith)
           ∙ c.in-Ok.ensures.rows
-          ∙ over_all (rows_found t) c.deref-mut.result.now (omega (arith, length_rows_found t ok, c.in-ok-rows.ensures.len));
+          ∙ over_all (rows_found t) c.deref_mut.result.now (omega (arith, length_rows_found t ok, c.in_ok-rows.ensures.len));
       told =
-          items_refilled c.in-ok-results.results c.run.new.results (omega arith)
+          items_refilled c.in_ok-results.results c.run.new.results (omega arith)
           ∙ c.in-Ok.ensures.results
-          ∙ over_all (results_of t) c.deref-mut-2.result.now (omega (arith, length_results t ok, c.in-ok-results.ensures.len));
+          ∙ over_all (results_of t) c.deref_mut-2.result.now (omega (arith, length_results t ok, c.in_ok-results.ensures.len));
       seated =
-          items_refilled c.in-ok-benches.benches c.run.new.benches (omega arith)
+          items_refilled c.in_ok-benches.benches c.run.new.benches (omega arith)
           ∙ c.in-Ok.ensures.benches
-          ∙ over_all (benches_of t) c.deref-mut-3.result.now (omega (arith, length_benches t ok, c.in-ok-benches.ensures.len));
+          ∙ over_all (benches_of t) c.deref_mut-3.result.now (omega (arith, length_benches t ok, c.in_ok-benches.ensures.len));
       asked = sym (ap (λ (o : Outcome). o.asks) counts);
       housed = sym (ap (λ (o : Outcome). o.placed) counts);
     }

@@ -10,13 +10,13 @@ returns-then-workshop-workshops c =
     cut_of_none (tables_settled c.args.self.now) (tables_of c.view-round.result) (proper_owned c.args.self.now.held) c.view-round.ensures
     (vec_items c.args.self.now.benches) c.args.self.now.seated c.args.workshop c.workshops.result c.workshops.ensures c.if-workshop-workshops.true
 
-pub slice-bounds-cut-of-end : goal.slice-bounds-cut-of-end
-slice-bounds-cut-of-end c =
+pub slice_bounds-cut_of-end : goal.slice_bounds-cut_of-end
+slice_bounds-cut_of-end c =
     bench_end (tables_settled c.args.self.now) (tables_of c.view-round.result) (proper_owned c.args.self.now.held) c.view-round.ensures
-    c.as-slice.result.now (c.as-slice.ensures.value ∙ c.args.self.now.seated) c.args.workshop c.workshops.result c.workshops.ensures c.if-workshop-workshops.false
+    c.as_slice.result.now (c.as_slice.ensures.value ∙ c.args.self.now.seated) c.args.workshop c.workshops.result c.workshops.ensures c.if-workshop-workshops.false
 
 pub returns : goal.returns
 returns c =
-    c.cut-of.ensures
+    c.cut_of.ensures
     ∙ cut_in_slice (tables_settled c.args.self.now) (tables_of c.view-round.result) (proper_owned c.args.self.now.held) c.view-round.ensures
-    c.as-slice.result.now (c.as-slice.ensures.value ∙ c.args.self.now.seated) c.args.workshop c.workshops.result c.workshops.ensures c.if-workshop-workshops.false
+    c.as_slice.result.now (c.as_slice.ensures.value ∙ c.args.self.now.seated) c.args.workshop c.workshops.result c.workshops.ensures c.if-workshop-workshops.false

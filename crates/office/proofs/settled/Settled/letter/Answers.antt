@@ -5,12 +5,12 @@ use Rattle.office.proofs.Holding.{proper_owned}
 use Rattle.office.proofs.Laid.{letter_in_slice, letter_end}
 use Rattle.office.proofs.settled.Settled.letter.Goals as goal
 
-pub slice-bounds-result-end-2 : goal.slice-bounds-result-end-2
-slice-bounds-result-end-2 c =
+pub slice_bounds-result-end-2 : goal.slice_bounds-result-end-2
+slice_bounds-result-end-2 c =
     letter_end (tables_settled c.args.self.now) (tables_of c.view-round.result) (proper_owned c.args.self.now.held) c.view-round.ensures
-    c.as-slice.result.now (c.as-slice.ensures.value ∙ c.args.self.now.written) c.args.applicant c.applicants.result c.applicants.ensures c.if-applicant-applicants.false
+    c.as_slice.result.now (c.as_slice.ensures.value ∙ c.args.self.now.written) c.args.applicant c.applicants.result c.applicants.ensures c.if-applicant-applicants.false
 
 pub returns : goal.returns
 returns c =
     letter_in_slice (tables_settled c.args.self.now) (tables_of c.view-round.result) (proper_owned c.args.self.now.held) c.view-round.ensures
-    c.as-slice.result.now (c.as-slice.ensures.value ∙ c.args.self.now.written) c.args.applicant c.applicants.result c.applicants.ensures c.if-applicant-applicants.false
+    c.as_slice.result.now (c.as_slice.ensures.value ∙ c.args.self.now.written) c.args.applicant c.applicants.result c.applicants.ensures c.if-applicant-applicants.false
