@@ -39,7 +39,7 @@ fn run(rt: &HostRuntime) -> Result<(), Failed> {
     let Some(file) = file else {
         return check_one(rt, "-");
     };
-    if file == "--help" || file == "-h" {
+    if file.as_str() == "--help" || file.as_str() == "-h" {
         print!(rt; "{USAGE}")?;
         return Ok(());
     }

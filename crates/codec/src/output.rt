@@ -2,7 +2,7 @@
 ghost use Rattle.std.specs.Prelude.{◌≡◌, ℕ, ◌+◌, ◌*◌, ◌<◌, ◌≤◌, ◌∷◌, ◌++◌, length, take, drop, Ok, nat_lt, slice_index};
 ghost use Rattle.layout.specs.Slices.{table, flat, laid, outcome};
 ghost use Rattle.layout.specs.Bytes.{refuse, decode};
-ghost use Rattle.layout.specs.Tables.{applicants as applicants-of, workshops as workshops-of, rows as rows_of_lem, places_at, list_length};
+ghost use Rattle.layout.specs.Tables.{applicants as applicants_of, workshops as workshops_of, rows as rows_of, places_at, list_length};
 ghost use Rattle.layout.specs.Encode.{two_bytes, record_bytes, sheet_bytes, encode};
 ghost use Rattle.layout.specs.declared.Refusal.TheVariants.{NoRoom};
 ghost use Rattle.layout.specs.declared.Lent.TheVariants.{RoundTables};
@@ -36,8 +36,8 @@ fn put_list(entries: &[u16], from: usize, count: usize, out: &mut [u8], at: usiz
 
 // The places of the workshops.
 fn write_places(round: &Round, out: &mut [u8])
-    requires { 4 + workshops-of (tables_of round.now) ≤ length out.old }
-    ensures { out.new ≡ put 4 (table (places_at (tables_of round.now)) (workshops-of (tables_of round.now))) out.old }
+    requires { 4 + workshops_of (tables_of round.now) ≤ length out.old }
+    ensures { out.new ≡ put 4 (table (places_at (tables_of round.now)) (workshops_of (tables_of round.now))) out.old }
 {
     for w in 0..round.workshops() {
         out[PLACES_FROM + w] = (round.seats[w + 1] - round.seats[w]) as u8;
@@ -46,7 +46,7 @@ fn write_places(round: &Round, out: &mut [u8])
 
 // The record of applicant a: its lot, the count of its list, the list.
 fn write_record(round: &Round, a: usize, out: &mut [u8], at: usize)
-    requires one { a < applicants-of (tables_of round.now) }
+    requires one { a < applicants_of (tables_of round.now) }
     requires room { at + 3 + list_length (tables_of round.now) a ≤ length out.old }
     ensures { out.new ≡ put at (record_bytes (tables_of round.now) a) out.old }
 {
@@ -59,8 +59,8 @@ fn write_record(round: &Round, a: usize, out: &mut [u8], at: usize)
 
 // The records of all applicants, from `at` on.
 fn write_records(round: &Round, out: &mut [u8], at: usize)
-    requires { at + 3 * applicants-of (tables_of round.now) + length (tables_of round.now).entries ≤ length out.old }
-    ensures { out.new ≡ put at (flat (record_bytes (tables_of round.now)) (applicants-of (tables_of round.now))) out.old }
+    requires { at + 3 * applicants_of (tables_of round.now) + length (tables_of round.now).entries ≤ length out.old }
+    ensures { out.new ≡ put at (flat (record_bytes (tables_of round.now)) (applicants_of (tables_of round.now))) out.old }
 {
     for a in 0..round.applicants() {
         write_record(round, a, out, at + 3 * a + round.starts[a] as usize);
@@ -79,7 +79,7 @@ fn write_row(out: &mut [u8], at: usize, workshop: u8, applicant: u16, points: u1
 
 // The rows of workshop w, from `at` on.
 fn write_sheet(round: &Round, w: usize, out: &mut [u8], at: usize)
-    requires one { w < workshops-of (tables_of round.now) }
+    requires one { w < workshops_of (tables_of round.now) }
     requires room { at + length (sheet_bytes (tables_of round.now) w) ≤ length out.old }
     ensures { out.new ≡ put at (sheet_bytes (tables_of round.now) w) out.old }
 {
@@ -98,8 +98,8 @@ fn write_sheet(round: &Round, w: usize, out: &mut [u8], at: usize)
 
 // The rows of all workshops, from `at` on.
 fn write_sheets(round: &Round, out: &mut [u8], at: usize)
-    requires { at + 5 * rows_of_lem (tables_of round.now) ≤ length out.old }
-    ensures { out.new ≡ put at (flat (sheet_bytes (tables_of round.now)) (workshops-of (tables_of round.now))) out.old }
+    requires { at + 5 * rows_of (tables_of round.now) ≤ length out.old }
+    ensures { out.new ≡ put at (flat (sheet_bytes (tables_of round.now)) (workshops_of (tables_of round.now))) out.old }
 {
     for w in 0..round.workshops() {
         write_sheet(round, w, out, at + 5 * round.row_starts[w] as usize);

@@ -1,6 +1,6 @@
 // The view of a round over the slices that its tables were read into.
 ghost use Rattle.std.specs.Prelude.{◌≡◌};
-ghost use Rattle.layout.specs.Tables.{applicants as applicants-of, workshops as workshops-of};
+ghost use Rattle.layout.specs.Tables.{applicants as applicants_of, workshops as workshops_of};
 ghost use Rattle.codec.specs.Fronts.{fronts, Ready};
 ghost use Rattle.codec.specs.Rounds.{tables_of};
 
@@ -41,14 +41,14 @@ impl<'a> Round<'a> {
 
     // How many applicants the round has.
     pub fn applicants(&self) -> usize
-        ensures { result ≡ applicants-of (tables_of self.now) }
+        ensures { result ≡ applicants_of (tables_of self.now) }
     {
         self.lots.len()
     }
 
     // How many workshops the round has.
     pub fn workshops(&self) -> usize
-        ensures { result ≡ workshops-of (tables_of self.now) }
+        ensures { result ≡ workshops_of (tables_of self.now) }
     {
         self.seats.len() - 1
     }

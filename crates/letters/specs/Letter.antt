@@ -1,7 +1,7 @@
 -- The bytes of a letter: where each number stands and what it says, as total functions of the bytes; and a letter written out.
 -- Definitions only.
 use Rattle.std.specs.Prelude.{◌≡◌, ℕ, ◌+◌, ◌*◌, ◌^◌, ◌<◌, ◌≤◌, true, cond, ◌⊎◌, List, [], ◌∷◌, ◌++◌, map, length, drop, ◌==◌}
-use Rattle.std.specs.List.{flat_map, AllByRecursion as All}
+use Rattle.std.specs.List.{flat_map, AllByRecursion}
 use Rattle.layout.specs.Slices.{table}
 use Rattle.layout.specs.Tables.{no_repeat, most_entries}
 use Rattle.layout.specs.Bytes.{byte, word}
@@ -93,6 +93,6 @@ pub record WellFormed (l : Letter) : Type 0 where
   pub applicant : l.applicant < 2 ^ 16
   pub lot : l.lot < 2 ^ 16
   pub few : length l.entries ≤ most_entries
-  pub small : All SmallEntry l.entries
+  pub small : AllByRecursion SmallEntry l.entries
   pub distinct : no_repeat (map (λ (e : Entry). e.workshop) l.entries) ≡ true
   pub place : (l.place < length l.entries) ⊎ (l.place ≡ 255)

@@ -1,14 +1,13 @@
 -- Where the bench of a workshop and the letter of an applicant lie among all of them.
-use Rattle.std.proofs.Common.{◌≡◌, ℕ, ◌+◌, ◌-◌, ◌*◌, ◌<◌, ◌≤◌, true, cond, eqb, List, [], ◌∷◌, ◌++◌, length, get_or, take, drop, sym, refl, ap, ◌∙◌, subst, arith}
+use Rattle.std.proofs.Common.{◌≡◌, ℕ, ◌+◌, ◌-◌, ◌*◌, ◌<◌, ◌≤◌, List, [], ◌∷◌, ◌++◌, length, get_or, take, drop, sym, refl, ap, ◌∙◌, subst, arith}
 use lib.ListN.{length-replicate}
 use Rattle.std.proofs.lemmas.List.{take_at, get_or_past, length-append}
 use Rattle.std.proofs.lemmas.Bool.{lt-ltb}
 use Rattle.layout.specs.Slices.{flat}
 use Rattle.layout.specs.Tables.{Tables, Proper, applicants, workshops, places_at, list_length}
 use Rattle.layout.proofs.Flats.{length_table, flat_more, length_flat, length_flat_mono, drop_flat}
-use Rattle.layout.proofs.Offsets.{rises}
 use Rattle.round.specs.Market.{final}
-use Rattle.points.specs.Standing.{row_worth, market}
+use Rattle.points.specs.Standing.{market}
 use Rattle.bench.specs.Row.{after, after_all, empty_bench}
 use Rattle.bench.proofs.Laws.{length_after}
 use Rattle.asking.specs.Ended.{bench_of, bench_at, benches_at, benches_of}

@@ -1,19 +1,18 @@
 -- What asking and the writing of letters leave in memory that has just their size.
-use Rattle.std.proofs.Common.{◌≡◌, ℕ, ◌+◌, ◌*◌, ◌<◌, ◌≤◌, List, ◌++◌, length, get_or, take, drop, None, Option, sym, refl, ap, ◌∙◌, append-nil, arith}
+use Rattle.std.proofs.Common.{◌≡◌, ℕ, ◌+◌, ◌*◌, List, length, get_or, take, None, append-nil, arith}
 use Rattle.std.proofs.lemmas.List.{drop_all, take_all}
 use Rattle.std.proofs.lemmas.Bool.Decides.{nat_tests}
-use Rattle.layout.specs.Slices.{table, flat, over}
+use Rattle.layout.specs.Slices.{over}
 use Rattle.layout.specs.Tables.{Tables, Proper, applicants, workshops}
 use Rattle.layout.proofs.Flats.{length_table, flat_same}
 use Rattle.points.specs.Standing.{market, rows_found}
 use Rattle.asking.specs.Ended.{told, benches_of, no_room}
 use Rattle.asking.proofs.Found.{length_rows_found}
-use Rattle.asking.proofs.Sums.{few_entries}
 use Rattle.letters.specs.Settled.{Settled}
-use Rattle.letters.specs.Written.{all_letters, all_length, letters_room}
+use Rattle.letters.specs.Written.{all_letters, letters_room}
 use Rattle.letters.proofs.Told.{letters_settled}
 use Rattle.office.specs.Outcome.{results_of, letter_of, letters_of}
-use Rattle.office.proofs.Laid.{length_benches, length_letters}
+use Rattle.office.proofs.Laid.{length_benches}
 
 -- what is laid over a list of its length is all that is left
 pub over_all : (xs old : List ℕ) → length old ≡ length xs → over xs old ≡ xs

@@ -1,13 +1,12 @@
 -- Two rounds that differ in the list of one applicant only: the second is the first with that list, as the promises have it.
-use Rattle.std.proofs.Common.{◌≡◌, ℕ, zero, suc, ◌+◌, ◌-◌, ◌<◌, ◌≤◌, cond, eqb, ◌≢◌, List, [], ◌∷◌, length, get_or, set, sym, refl, ap, ◌∙◌, subst, ap₂, ⊎_elim, arith, length-set}
-use mathlib.Core.Path.{fun_ext}
+use Rattle.std.proofs.Common.{◌≡◌, ℕ, zero, suc, ◌+◌, ◌-◌, ◌<◌, ◌≤◌, ◌≢◌, List, [], ◌∷◌, length, get_or, set, sym, refl, ap, ◌∙◌, subst, ap₂, ⊎_elim, arith, length-set}
 use Rattle.std.proofs.lemmas.List.{get_or-set_same, get_or-set_other}
 use Rattle.std.proofs.lemmas.Bool.{cases_eq}
 use Rattle.layout.specs.Slices.{table}
-use Rattle.layout.specs.Tables.{Tables, Proper, applicants, workshops, places_at, list_length, list_at}
+use Rattle.layout.specs.Tables.{Tables, Proper, applicants, workshops, list_length, list_at}
 use Rattle.layout.proofs.Flats.{length_table, getD_table, is_table, table_same}
 use Rattle.round.specs.Places.{Round, result}
-use Rattle.round.specs.Promise.{rank, with_list, Truthful as Given-truthful, MoreApplicants}
+use Rattle.round.specs.Promise.{rank, with_list, Truthful as GivenTruthful, MoreApplicants}
 use Rattle.round.specs.Promise as promise
 use Rattle.round.specs.Market.{got}
 use Rattle.round.proofs.Promised as promised
@@ -84,7 +83,7 @@ module _ (t u : Tables) (pt : Proper t) (pu : Proper u) (a : ℕ) (l : a < appli
 
   -- the true list gets a at least as much as any other
   pub no_list_gains : rank (list_at t a) (got (market t) a) ≤ rank (list_at t a) (got (market u) a)
-  unfolding Given-truthful
+  unfolding GivenTruthful
   no_list_gains =
       let n = round_applicants t pt in
       let self = round_other t t a (other_self t a) l in

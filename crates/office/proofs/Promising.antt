@@ -1,14 +1,13 @@
 -- All that is promised holds of proper tables.
-use Rattle.std.proofs.Common.{◌≡◌, ℕ, ◌<◌, ◌≤◌, List, [], length, get_or, Ok, sym, refl, ap, ◌∙◌, subst, arith}
+use Rattle.std.proofs.Common.{◌≡◌, ℕ, ◌≤◌, List, Ok, sym, ◌∙◌, subst, arith}
 use mathlib.Core.Path.{fun_ext}
 use Rattle.layout.specs.Bytes.{decode}
 use Rattle.layout.specs.Encode.{BytesOnly}
 use Rattle.layout.proofs.RoundTrip.{all_as_written}
-use Rattle.layout.specs.Tables.{Tables, Proper, applicants, workshops, list_at}
+use Rattle.layout.specs.Tables.{Tables, Proper, list_at}
 use Rattle.round.specs.Places.{nowhere, result}
-use Rattle.round.specs.Promise.{Stable, rank, given, BestStable as Given-best, SameLeft as Given-left}
-use Rattle.round.specs.Market.{Closed, asked, final, got, asks, entries, sum}
-use Rattle.round.specs.ByPoints.{market_of}
+use Rattle.round.specs.Promise.{Stable, rank, given, BestStable as GivenBest, SameLeft as GivenLeft}
+use Rattle.round.specs.Market.{asked, final, got}
 use Rattle.round.proofs.Bridge.{result_got}
 use Rattle.round.proofs.Promised as promised
 use Rattle.round.proofs.Theorems as theorems
@@ -23,7 +22,7 @@ use Rattle.cuts.proofs.Defined.{cuts_defined}
 use Rattle.cuts.proofs.Reaching.{told_by_cuts}
 use Rattle.letters.proofs.Told.{accepted_own}
 use Rattle.office.specs.Outcome.{letter_of}
-use Rattle.office.specs.Promises.{BestKept, Ends, AnyOrder, BestStable, SameLeft, FirstReached, LettersRight, Promised, OfAllRead}
+use Rattle.office.specs.Promises.{BestKept, Ends, AnyOrder, BestStable, SameLeft, LettersRight, Promised, OfAllRead}
 
 module _ (t : Tables) (proper : Proper t) where
   pub best_kept : BestKept t
@@ -39,7 +38,7 @@ module _ (t : Tables) (proper : Proper t) where
   got_result = fun_ext (result_got (round_of t) (round_proper t proper))
 
   pub best_stable : BestStable t
-  unfolding Given-best
+  unfolding GivenBest
   best_stable =
       let given = promised.best_stable (round_of t) (round_proper t proper) in
       let n = round_applicants t proper in (
@@ -51,7 +50,7 @@ module _ (t : Tables) (proper : Proper t) where
       )
 
   pub same_left : SameLeft t
-  unfolding Given-left nowhere
+  unfolding GivenLeft nowhere
   same_left m n sm sn =
       let left = promised.same_left (round_of t) m n (round_proper t proper) sm sn in
       let many = round_applicants t proper in

@@ -2,7 +2,6 @@
 use Rattle.std.proofs.Common.{◌≡◌, ℕ, List, length, drop, vec_items, vec_len, Vec}
 use Rattle.std.specs.Vec.{with_items}
 use Rattle.std.proofs.lemmas.List.{take_at}
-use Rattle.layout.specs.Tables.{Tables}
 use Rattle.layout.specs.declared.Sizes.{Sizes}
 use Rattle.codec.specs.Fronts.{fronts}
 

@@ -1,14 +1,13 @@
 -- The largest tables have room for whatever is read without a fault.
-use Rattle.std.proofs.Common.{◌≡◌, ℕ, zero, suc, ◌+◌, ◌*◌, ◌^◌, ◌<◌, ◌≤◌, Bool, true, false, not, leb, List, length, Some, None, Ok, Err, Option, Result, sym, refl, ap, ◌∙◌, add-one, arith}
+use Rattle.std.proofs.Common.{◌≡◌, ℕ, zero, suc, ◌*◌, ◌^◌, ◌<◌, ◌≤◌, List, length, Some, None, Ok, Err, Option, Result, sym, refl, ap, ◌∙◌, arith}
 use Rattle.std.proofs.lemmas.Bool.Decides.{nat_tests}
 use Rattle.layout.specs.Slices.{outcome, or_else}
-use Rattle.layout.specs.Bytes.{fault, decode, tables_in, applicants_in, workshops_in, rows_in, count_in, start_of, sizes_in}
+use Rattle.layout.specs.Bytes.{fault, decode, tables_in, applicants_in, count_in, start_of, sizes_in}
 use Rattle.layout.specs.declared.Refusal.{Refusal}
 use Rattle.layout.specs.declared.Sizes.{Sizes}
 use Rattle.layout.specs.Tables.{Tables}
 use Rattle.layout.proofs.Firsts.{or_else_none}
-use Rattle.layout.proofs.Clean.{Clean, clean_from_none}
-use Rattle.layout.proofs.Offsets.{start_of_more}
+use Rattle.layout.proofs.Clean.{clean_from_none}
 use Rattle.codec.specs.Fronts.{room_fault}
 use Rattle.codec.proofs.Firsts.{none_from_ok, fault_from_err}
 

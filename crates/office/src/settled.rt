@@ -1,7 +1,7 @@
 // A settled round: its tables, each list entry's row, what each applicant is told, the benches and the letters, and that they are
 // those of the definitions in the type itself.
 ghost use Rattle.std.specs.Prelude.{◌≡◌};
-ghost use Rattle.round.specs.Market.{asks as asks_of, placed as Placed-of};
+ghost use Rattle.round.specs.Market.{asks as asks_of, placed as placed_of};
 ghost use Rattle.points.specs.Standing.{market, rows_found};
 ghost use Rattle.asking.specs.Ended.{benches_of};
 ghost use Rattle.office.specs.Outcome.{results_of, letters_of};
@@ -23,5 +23,5 @@ pub struct Settled {
     ghost seated: { benches.items ≡ benches_of (tables_owned held) },
     ghost written: { letters.items ≡ letters_of (tables_owned held) },
     ghost asked: { asks ≡ asks_of (market (tables_owned held)) },
-    ghost housed: { placed ≡ Placed-of (market (tables_owned held)) },
+    ghost housed: { placed ≡ placed_of (market (tables_owned held)) },
 }

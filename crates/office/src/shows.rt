@@ -1,8 +1,8 @@
 // What a settled round shows.
 ghost use Rattle.std.specs.Prelude.{◌≡◌};
-ghost use Rattle.layout.specs.Tables.{applicants as applicants-of};
+ghost use Rattle.layout.specs.Tables.{applicants as applicants_of};
 ghost use Rattle.codec.specs.Rounds.{tables_of};
-ghost use Rattle.round.specs.Market.{asks as asks_of, placed as Placed-of};
+ghost use Rattle.round.specs.Market.{asks as asks_of, placed as placed_of};
 ghost use Rattle.points.specs.Standing.{market};
 ghost use Rattle.cuts.specs.Promised.{cut_at};
 ghost use Rattle.office.specs.Outcome.{results_of, letter_told};
@@ -41,7 +41,7 @@ impl Settled {
 
     // How many applicants it has.
     pub fn applicants(&self) -> usize
-        ensures { result ≡ applicants-of (tables_settled self.now) }
+        ensures { result ≡ applicants_of (tables_settled self.now) }
     {
         self.held.lots.len()
     }
@@ -62,7 +62,7 @@ impl Settled {
 
     // How many have a place.
     pub fn placed(&self) -> usize
-        ensures { result ≡ Placed-of (market (tables_settled self.now)) }
+        ensures { result ≡ placed_of (market (tables_settled self.now)) }
     {
         self.placed
     }

@@ -6,7 +6,7 @@ use lib.ListN.{get_or-eq_default}
 use Rattle.std.proofs.lemmas.Bool.Decides.{same_from_decides, Decides-eqb}
 use Rattle.std.proofs.lemmas.Bool.{lt-ltb, le-ltb, and_left, cond-true, cond-false, cases_lt}
 use Rattle.round.specs.Places.{Round, point, nowhere, ahead, refused, steps, total, result}
-use Rattle.round.specs.Places.{asked as asks-now}
+use Rattle.round.specs.Places.{asked as asks_now}
 use Rattle.round.specs.Promise.{Proper, rank}
 use Rattle.round.specs.Market.{Listed, Justified, asked, here, turned, move, run, final, entries, asks, asks_at, got, held, count, sum}
 use Rattle.round.specs.ByPoints.{wish_of, market_of, ahead_of}
@@ -36,16 +36,16 @@ total_sum (l ∷ ls) = ap (λ (t : ℕ). length l + t) (total_sum ls) ∙ sym (s
 
 module _ (r : Round) (ok : Proper r) where
   -- whoever asks p now stands in its list at p
-  pub asks_here : (at : List ℕ) (p b : ℕ) → p < nowhere r → eqb (asks-now r at b) p ≡ here (wish_of r) (state_of at) p b
-  unfolding asks-now wish_of nowhere
+  pub asks_here : (at : List ℕ) (p b : ℕ) → p < nowhere r → eqb (asks_now r at b) p ≡ here (wish_of r) (state_of at) p b
+  unfolding asks_now wish_of nowhere
   asks_here at p b h =
-      same_from_decides {P = asks-now r at b ≡ p} _ _ (Decides-eqb _ p)
+      same_from_decides {P = asks_now r at b ≡ p} _ _ (Decides-eqb _ p)
       (λ t. let i = here_parts (wish_of r) (state_of at) p b t in rw i.0 at (listed.back b p i.1), there)
     where
       listed : Listed (length r.lists) (length r.places) (wish_of r)
       listed = listed_by_rank r ok
 
-      there : asks-now r at b ≡ p → here (wish_of r) (state_of at) p b ≡ true
+      there : asks_now r at b ≡ p → here (wish_of r) (state_of at) p b ≡ true
       there e =
           elim (cases_lt (get_or at b 0) (length (get_or r.lists b []))) [
             | inl l ↦
@@ -68,11 +68,11 @@ module _ (r : Round) (ok : Proper r) where
 
   -- the given `refused` says who is turned down
   pub refused_turned : (at : List ℕ) → Justified (market_of r) (state_of at) → (a : ℕ) → a < length r.lists → refused r at a ≡ turned (market_of r) (state_of at) a
-  unfolding refused turned market_of wish_of nowhere asks-now
+  unfolding refused turned market_of wish_of nowhere asks_now
   refused_turned at just a h =
       elim (cases_lt (get_or at a 0) (length (get_or r.lists a []))) [
         | inl l ↦
-            let p = asks-now r at a in
+            let p = asks_now r at a in
             let small : p < nowhere r = (listed_by_rank r ok).small a (get_or at a 0) l in
             let now = here_from (wish_of r) (state_of at) p a ((listed_by_rank r ok).there a (get_or at a 0) l) (let e = (listed_by_rank r ok).there a (get_or at a 0) l in omega arith) in
             let same = keeps_here (state_of at) just p a h in
@@ -82,8 +82,8 @@ module _ (r : Round) (ok : Proper r) where
             let t2 = lt-ltb (get_or at a 0) (length (get_or r.lists a [])) l in
             cc
         | inr l ↦
-            let past : asks-now r at a ≡ nowhere r = get_or-eq_default (get_or r.lists a []) (nowhere r) l in
-            and_left _ _ (le-ltb (asks-now r at a) (nowhere r) (omega arith)) ∙ sym (and_left _ _ (le-ltb (get_or at a 0) (length (get_or r.lists a [])) l))
+            let past : asks_now r at a ≡ nowhere r = get_or-eq_default (get_or r.lists a []) (nowhere r) l in
+            and_left _ _ (le-ltb (asks_now r at a) (nowhere r) (omega arith)) ∙ sym (and_left _ _ (le-ltb (get_or at a 0) (length (get_or r.lists a [])) l))
       ]
 
   -- so a given step is one of the market
@@ -119,8 +119,8 @@ module _ (r : Round) (ok : Proper r) where
   steps_final = steps_run (total r.lists) ∙ ap {B = ℕ → ℕ} (λ (t : ℕ). run (market_of r) t) (total_sum r.lists)
 
   -- what somebody asks at a state of the market is what it holds there
-  pub asks_held : (at : List ℕ) (a : ℕ) → asks-now r at a ≡ held (market_of r) (state_of at) a
-  unfolding asks-now held market_of wish_of nowhere
+  pub asks_held : (at : List ℕ) (a : ℕ) → asks_now r at a ≡ held (market_of r) (state_of at) a
+  unfolding asks_now held market_of wish_of nowhere
   asks_held at a =
       elim (cases_lt (get_or at a 0) (length (get_or r.lists a []))) [
         | inl l ↦ sym (cond-true _ _ _ (lt-ltb (get_or at a 0) (length (get_or r.lists a [])) l))

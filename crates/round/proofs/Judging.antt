@@ -1,7 +1,7 @@
 -- Whether an assignment is stable can be computed; so the judged assignments of the worked rounds are told apart.
 use Rattle.std.proofs.Common.{◌≡◌, ℕ, zero, suc, ◌<◌, ◌≤◌, Bool, true, false, not, ◌&&◌, ◌||◌, eqb, ltb, leb, List, [], ◌∷◌, map, length, get_or, Decides, refl, ap, inl, inr, arith}
 use lib.ListN.{get_or-eq_default}
-use Rattle.std.specs.List.{AllByRecursion as All}
+use Rattle.std.specs.List.{AllByRecursion}
 use Rattle.std.proofs.lemmas.Bool.{leb-true, le-leb, false≢true, cases_lt}
 use Rattle.std.proofs.lemmas.Bool.Decides.{Decides-at, Decides-like, Decides-and, Decides-or, Decides-ltb, Decides-eqb, Decides-below_and}
 use Rattle.round.specs.Places.{Round, point, nowhere}
@@ -111,7 +111,7 @@ module _ (r : Round) where
 judge : Judged → Bool
 judge j = stable? j.round (assignment j.round j.gets)
 
-told_from : (js : List Judged) → map (λ j. j.stable) js ≡ map judge js → All (λ j. Decides j.stable (Stable j.round (assignment j.round j.gets))) js
+told_from : (js : List Judged) → map (λ j. j.stable) js ≡ map judge js → AllByRecursion (λ j. Decides j.stable (Stable j.round (assignment j.round j.gets))) js
 unfolding judge
 told_from [] e = tt
 told_from (j ∷ js) e = (Decides-at j.stable _ (cc) (decides_stable j.round (assignment j.round j.gets)), told_from js (cc))
@@ -120,7 +120,7 @@ pub told_apart : ToldApart
 unfolding ToldApart judged judge stable? own? room? pair? all_below assignment worths round_of round_a round_b round_c round_d round_e round_f worth_of given rank nowhere point
 told_apart = told_from judged refl
 
-proper_from : (ws : List Worked) → map (λ w. proper? w.round) ws ≡ map (λ _. true) ws → All (λ w. Proper w.round) ws
+proper_from : (ws : List Worked) → map (λ w. proper? w.round) ws ≡ map (λ _. true) ws → AllByRecursion (λ w. Proper w.round) ws
 proper_from [] e = tt
 proper_from (w ∷ ws) e = ((decides_proper w.round).0 (cc), proper_from ws (cc))
 

@@ -2,7 +2,7 @@
 -- are no row. The first applicant's lot is 1, the second's 2, and so on. Nowhere is told as `none`.
 use Rattle.std.specs.Prelude.{◌≡◌, ℕ, suc, Bool, true, false, List, [], ◌∷◌, map, length, Decides, nat_lt, slice_index_or}
 use Rattle.std.proofs.Math.Option.{Option, some, none}
-use Rattle.std.specs.List.{range_with_len, AllByRecursion as All}
+use Rattle.std.specs.List.{range_with_len, AllByRecursion}
 use Rattle.round.specs.Places.{Round, result, nowhere, pick}
 use Rattle.round.specs.Promise.{Proper, Stable}
 use Rattle.round.specs.ByPoints.{worth_of}
@@ -87,7 +87,7 @@ WorkedOut = map (λ w. outcome_of w.round) worked ≡ map (λ w. w.outcome) work
 
 -- and each of them is a proper round, so that all that is promised holds of it
 unfoldable pub AllProper : Type 0
-AllProper = All (λ w. Proper w.round) worked
+AllProper = AllByRecursion (λ w. Proper w.round) worked
 
 -- an assignment written as a list; who does not stand in it is nowhere
 unfoldable pub assignment : Round → List (Option ℕ) → ℕ → ℕ
@@ -120,4 +120,4 @@ judged =
 
 -- the given definition of a stable assignment tells them apart
 unfoldable pub ToldApart : Type 0
-ToldApart = All (λ j. Decides j.stable (Stable j.round (assignment j.round j.gets))) judged
+ToldApart = AllByRecursion (λ j. Decides j.stable (Stable j.round (assignment j.round j.gets))) judged

@@ -63,7 +63,7 @@ fn run(rt: &HostRuntime) -> Result<(), Failed> {
     let Some(file) = file else {
         return settle_round(rt, "-", None);
     };
-    if file == "--help" || file == "-h" {
+    if file.as_str() == "--help" || file.as_str() == "-h" {
         print!(rt; "{USAGE}")?;
         return Ok(());
     }

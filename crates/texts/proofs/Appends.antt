@@ -1,5 +1,5 @@
 -- Lines put one after the other behind a text.
-use Rattle.std.proofs.Common.{◌≡◌, ℕ, ◌+◌, List, [], ◌++◌, sym, refl, ap, ◌∙◌, append_assoc, append-nil}
+use Rattle.std.proofs.Common.{◌≡◌, ℕ, ◌+◌, List, [], ◌++◌, sym, ap, ◌∙◌, append_assoc, append-nil}
 use Rattle.layout.specs.Slices.{flat}
 use Rattle.layout.proofs.Flats.{flat_more}
 

@@ -1,5 +1,5 @@
 -- A letter in words, line by line. Definitions only.
-use Rattle.std.specs.Prelude.{ℕ, ◌+◌, Bool, true, false, cond, List, [], ◌∷◌, ◌++◌, codes, decimal, Option, ◌==◌}
+use Rattle.std.specs.Prelude.{ℕ, ◌+◌, Bool, true, false, cond, List, ◌++◌, codes, decimal, Option, ◌==◌}
 use Rattle.layout.specs.Slices.{flat, or_else}
 use Rattle.layout.specs.Bytes.{byte, word}
 use Rattle.layout.specs.declared.Refusal.{Refusal}

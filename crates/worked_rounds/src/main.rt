@@ -50,7 +50,7 @@ fn run(rt: &HostRuntime) -> Result<(), Failed> {
         eprint!(rt; "{USAGE}")?;
         return Err(Failed::Told);
     };
-    if first == "--help" || first == "-h" {
+    if first.as_str() == "--help" || first.as_str() == "-h" {
         print!(rt; "{USAGE}")?;
         return Ok(());
     }

@@ -1,6 +1,5 @@
-use Rattle.std.proofs.Common.{◌≡◌, sym, ◌∙◌, subst, arith}
+use Rattle.std.proofs.Common.{sym, ◌∙◌, subst, arith}
 use Rattle.layout.specs.Tables.{Tables, Proper}
-use Rattle.codec.specs.Fronts.{fronts}
 use Rattle.office.specs.Owned.{tables_owned}
 use Rattle.office.proofs.Refills.{items_refilled, fronts_same}
 use Rattle.office.proofs.Roomy.{roomy, sizes_small, decode_read, fault_refused}

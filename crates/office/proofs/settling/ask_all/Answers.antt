@@ -1,4 +1,4 @@
-use Rattle.std.proofs.Common.{◌≡◌, ℕ, sym, ap, ◌∙◌, arith}
+use Rattle.std.proofs.Common.{sym, ap, ◌∙◌, arith}
 use Rattle.points.specs.Standing.{rows_found}
 use Rattle.points.proofs.Lots.{tables_proper}
 use Rattle.asking.specs.Ended.{benches_of}

@@ -1,4 +1,4 @@
-use Rattle.std.proofs.Common.{◌≡◌, ℕ, ◌<◌, length, get_or, Ok, Result, sym, ap, ◌∙◌, arith}
+use Rattle.std.proofs.Common.{Ok, Result, sym, ap, ◌∙◌, arith}
 use Rattle.layout.specs.Encode.{BytesOnly}
 use Rattle.layout.specs.Tables.{Tables}
 use Rattle.layout.specs.declared.Refusal.{Refusal}

@@ -1,4 +1,4 @@
-use Rattle.std.proofs.Common.{◌≡◌, length, sym, ap, ◌∙◌, arith}
+use Rattle.std.proofs.Common.{length, sym, ap, ◌∙◌, arith}
 use Rattle.layout.proofs.Firsts.{some_is_not_none}
 use Rattle.points.proofs.Lots.{tables_proper}
 use Rattle.asking.proofs.Found.{length_rows_found}

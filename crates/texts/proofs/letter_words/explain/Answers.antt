@@ -1,4 +1,4 @@
-use Rattle.std.proofs.Common.{◌≡◌, sym, ◌∙◌}
+use Rattle.std.proofs.Common.{sym, ◌∙◌}
 use Rattle.layout.specs.Slices.{or_else}
 use Rattle.layout.proofs.Firsts.{or_else_none}
 use Rattle.letters.specs.Faults.{letter_fault, place_fault, verdict_in}

@@ -1,4 +1,4 @@
-use Rattle.std.proofs.Common.{◌≡◌, ℕ, List, [], ap, ◌∙◌}
+use Rattle.std.proofs.Common.{ap}
 use Rattle.letters.specs.declared.check.Verdict.{Verdict}
 use Rattle.texts.specs.Words.{whose_line, words_of, accepted_line}
 use Rattle.texts.proofs.Appends.{four_parts}
