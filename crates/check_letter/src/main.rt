@@ -4,6 +4,7 @@
 
 use console::Failed;
 use std::env;
+use std::process::ExitCode;
 use texts::Fault;
 
 const USAGE: &str = "usage: check_letter [FILE]
@@ -46,6 +47,6 @@ fn run(rt: &HostRuntime) -> Result<(), Failed> {
     check_one(rt, file.as_str())
 }
 
-fn main(rt: HostRuntime) -> Result<(), Failed> {
-    console::finish(&rt, run(&rt))
+fn main(rt: HostRuntime) -> ExitCode {
+    console::end(&rt, run(&rt))
 }

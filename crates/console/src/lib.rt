@@ -2,7 +2,8 @@
 // is made and proved in the crates `texts` and `office`; no contract can say what a program reads or prints.
 #![tactic(auto)]
 
-ghost use Rattle.std.specs.Prelude.{◌≡◌, false, is_ok, IfOk, Ok};
+ghost use Rattle.std.specs.Prelude.{◌≡◌, false, is_ok, IfOk, Ok, if◌then◌else◌};
+ghost use Rattle.std.specs.Process.{exit_status};
 ghost use Rattle.layout.specs.Bytes.{decode};
 ghost use Rattle.office.specs.Settling.{tables_settled};
 
@@ -10,6 +11,7 @@ use layout::Refusal;
 use office::Settled;
 use std::alloc::AllocError;
 use std::io::Read;
+use std::process::ExitCode;
 use std::{fs, io};
 use texts::Fault;
 
@@ -94,4 +96,15 @@ pub fn finish(rt: &HostRuntime, done: Result<(), Failed>) -> Result<(), Failed>
         eprintln!(rt; "out of memory")?;
     }
     done
+}
+
+// Says what has not been said yet, and gives the status that a program ends with: 1 for a failure. `main` returns it, and not the
+// failure itself, which would be printed once more, in the words of the code.
+pub fn end(rt: &HostRuntime, done: Result<(), Failed>) -> ExitCode
+    ensures { exit_status result ≡ (if is_ok done then 0 else 1) }
+{
+    match finish(rt, done) {
+        Ok(()) => ExitCode::SUCCESS,
+        Err(_) => ExitCode::FAILURE,
+    }
 }

@@ -5,6 +5,7 @@
 use console::Failed;
 use office::Settled;
 use std::alloc::{AllocError, Global};
+use std::process::ExitCode;
 use std::{env, fs};
 
 const USAGE: &str = "usage: run_round [FILE] [LETTERS_DIR]
@@ -73,6 +74,6 @@ fn run(rt: &HostRuntime) -> Result<(), Failed> {
     }
 }
 
-fn main(rt: HostRuntime) -> Result<(), Failed> {
-    console::finish(&rt, run(&rt))
+fn main(rt: HostRuntime) -> ExitCode {
+    console::end(&rt, run(&rt))
 }

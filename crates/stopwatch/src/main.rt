@@ -5,6 +5,7 @@
 
 use console::Failed;
 use std::env;
+use std::process::ExitCode;
 use std::time::Instant;
 use texts::Fault;
 
@@ -53,6 +54,6 @@ fn run(rt: &HostRuntime) -> Result<(), Failed> {
     }
 }
 
-fn main(rt: HostRuntime) -> Result<(), Failed> {
-    console::finish(&rt, run(&rt))
+fn main(rt: HostRuntime) -> ExitCode {
+    console::end(&rt, run(&rt))
 }

@@ -6,6 +6,7 @@ use console::Failed;
 use office::Settled;
 use std::alloc::Global;
 use std::env;
+use std::process::ExitCode;
 use texts::Fault;
 
 const USAGE: &str = "usage: worked_rounds FILE..
@@ -61,6 +62,6 @@ fn run(rt: &HostRuntime) -> Result<(), Failed> {
     Ok(())
 }
 
-fn main(rt: HostRuntime) -> Result<(), Failed> {
-    console::finish(&rt, run(&rt))
+fn main(rt: HostRuntime) -> ExitCode {
+    console::end(&rt, run(&rt))
 }
