@@ -54,7 +54,7 @@ no_room t results benches rows =
 
 -- What the run of a round promises. stable and dearest: no applicant and workshop would rather have each other, and no stable
 -- assignment gives anybody anything dearer. truthful: no other list l gets b anything dearer, by its own list, than its own list
--- gets it. few-asks: at most as many asks as there are entries. as-defined: what each got is what all asking together step by
+-- gets it. few_asks: at most as many asks as there are entries. as_defined: what each got is what all asking together step by
 -- step comes to
 pub record Fair (t : Tables) : Type 0 where
   pub stable : Stable (round_of t) (got (market t))

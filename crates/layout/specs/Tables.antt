@@ -4,8 +4,8 @@ use Rattle.std.specs.Prelude.{◌≡◌, ℕ, ◌+◌, ◌-◌, ◌^◌, ◌<◌
 
 -- seats: the sums of the places of the workshops before each one, and of all (m + 1 numbers), so that workshop w has the seats
 -- from seats w up to seats (w + 1). lots: each applicant's lot. starts: where each applicant's list begins in entries, and the end
--- of all (n + 1 numbers). entries: all lists one after the other. row-starts: where each workshop's rows begin, and the end of all
--- (m + 1 numbers). row-applicants, row-points: the rows of the point sheets, by workshop and then by applicant
+-- of all (n + 1 numbers). entries: all lists one after the other. row_starts: where each workshop's rows begin, and the end of all
+-- (m + 1 numbers). row_applicants, row_points: the rows of the point sheets, by workshop and then by applicant
 pub record Tables : Type 0 where
   pub seats : List ℕ
   pub lots : List ℕ

@@ -7,7 +7,7 @@ use Rattle.round.specs.Places.{Round, refused, steps, total}
 use Rattle.round.specs.Promise.{Proper, Ends}
 use Rattle.round.specs.Market.{Reached, start, then, Moves, Closed, got, held, asks_at, entries}
 use Rattle.round.specs.ByPoints.{wish_of, market_of}
-use Rattle.round.specs.Office.{AnyOrder, AllTogether, ComesTo, first, next, Goes_on, asks_from}
+use Rattle.round.specs.Office.{AnyOrder, AllTogether, ComesTo, first, next, GoesOn, asks_from}
 use Rattle.round.proofs.Askers.{turned_parts}
 use Rattle.round.proofs.Ends.{reached_justified, closed_from_quiet}
 use Rattle.round.proofs.Theorems.{same_end, few_asks}
@@ -21,7 +21,7 @@ module _ (r : Round) (ok : Proper r) where
   comes_long _ (next at to c on) = on.long ∙ comes_long at c
 
   -- nobody who is no applicant moves
-  goes_on_moves : (at to : List ℕ) → length at ≡ length r.lists → Reached (market_of r) (state_of at) → Goes_on r at to → Moves (market_of r) (state_of at) (state_of to)
+  goes_on_moves : (at to : List ℕ) → length at ≡ length r.lists → Reached (market_of r) (state_of at) → GoesOn r at to → Moves (market_of r) (state_of at) (state_of to)
   goes_on_moves at to long reached on a =
       elim (cases_lt a (length r.lists)) [
         | inl l ↦
@@ -70,7 +70,7 @@ any_order r at ok comes none =
     )
 
 -- a given step is one in which all who are turned down go on
-step_goes_on : (r : Round) (t : ℕ) → Goes_on r (steps r t) (steps r (suc t))
+step_goes_on : (r : Round) (t : ℕ) → GoesOn r (steps r t) (steps r (suc t))
 step_goes_on r t =
     record {
       long = length_steps r (suc t) ∙ sym (length_steps r t);

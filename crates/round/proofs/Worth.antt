@@ -1,4 +1,4 @@
--- A worth orders by points first and then by the lower lot: what `worth-of` says in the words of points and lots.
+-- A worth orders by points first and then by the lower lot: what `worth_of` says in the words of points and lots.
 use Rattle.std.proofs.Common.{◌≡◌, ℕ, ◌<◌, ◌⊎◌, refl, inl, inr, arith}
 use Rattle.std.proofs.lemmas.Bool.Decides.{nat_tests}
 use Rattle.round.specs.ByPoints.{worth_of}

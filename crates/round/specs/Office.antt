@@ -19,14 +19,14 @@ unfoldable pub asks_of : Round → ℕ
 asks_of r = asks_from r (steps r (total r.lists))
 
 -- one after the other, in groups, or all together: some of those who are turned down ask the next of their lists
-pub record Goes_on (r : Round) (at to : List ℕ) : Type 0 where
+pub record GoesOn (r : Round) (at to : List ℕ) : Type 0 where
   pub long : length to ≡ length at
   pub each : (a : ℕ) → a < length r.lists → (slice_index to a ≡ slice_index at a) ⊎ ((refused r at a ≡ true) × (slice_index to a ≡ slice_index at a + 1))
 
 -- where asking in some order has come to, from everybody's first entry
 pub data ComesTo (r : Round) : List ℕ → Type 0 where
   first : ComesTo r (replicate (length r.lists) 0)
-  next : (at to : List ℕ) → ComesTo r at → Goes_on r at to → ComesTo r to
+  next : (at to : List ℕ) → ComesTo r at → GoesOn r at to → ComesTo r to
 
 -- all together is one of the orders, and after as many steps as there are entries nobody is turned down
 unfoldable pub AllTogether : Type 0

@@ -1,4 +1,4 @@
--- Each entry is judged as entry-fault-at says; the first that is at fault answers for the list.
+-- Each entry is judged as entry_fault_at says; the first that is at fault answers for the list.
 use Rattle.std.proofs.Common.{◌≡◌, ◌+◌, ◌<◌, false, length, Some, ◌∙◌, arith}
 use Rattle.std.proofs.lemmas.List.{length-set, length-replicate}
 use Rattle.std.proofs.lemmas.Bool.Decides.{nat_tests}

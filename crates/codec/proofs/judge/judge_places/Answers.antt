@@ -1,4 +1,4 @@
--- Each byte is judged as places-fault says; the first that is at fault answers for all.
+-- Each byte is judged as places_fault says; the first that is at fault answers for all.
 use Rattle.std.proofs.Common.{◌≡◌, ◌+◌, length, Some, arith}
 use Rattle.std.proofs.lemmas.Bool.Decides.{nat_tests}
 use Rattle.layout.specs.Bytes.{places_fault}
