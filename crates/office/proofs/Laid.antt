@@ -98,6 +98,9 @@ module _ (t u : Tables) (proper : Proper t) (same : u ≡ t) where
     pub bench_end : w < n → get_or u.seats (w + 1) 0 ≤ length bs
     bench_end l = let h = rw number at l in rw (held, same) (bench_part t proper w (rw same at h)).1
 
+    pub bench_rises : w < n → get_or u.seats w 0 ≤ get_or u.seats (w + 1) 0
+    bench_rises l = let h = rw number at l in rw same (proper.seated.1 w (rw same at h))
+
     pub cut_of_none : n ≤ w → Shut ≡ cut_at t w
     cut_of_none l = let h = rw number at l in cut_past t proper w (rw same at h)
 

@@ -1,5 +1,5 @@
--- What asking and the writing of letters leave in memory that has just their size.
-use Rattle.std.proofs.Common.{◌≡◌, ℕ, ◌+◌, ◌*◌, List, length, get_or, take, None, append-nil, arith}
+-- What asking and the writing of letters leave in memory that has just their size, and that there is room in it.
+use Rattle.std.proofs.Common.{◌≡◌, ℕ, ◌+◌, ◌*◌, ◌≤◌, List, length, get_or, take, None, append-nil, arith}
 use Rattle.std.proofs.lemmas.List.{drop_all, take_all}
 use Rattle.std.proofs.lemmas.Bool.Decides.{nat_tests}
 use Rattle.layout.specs.Slices.{over}
@@ -31,7 +31,7 @@ module _ (t : Tables) (proper : Proper t) where
     pub room_for_asking : no_room t results benches rows ≡ None
     room_for_asking = grind (arith, nat_tests)
 
-    pub room_for_letters : (out : ℕ) → out ≡ 6 * applicants t + 8 * length t.entries → letters_room t results benches rows out ≡ None
+    pub room_for_letters : (out : ℕ) → 6 * applicants t + 8 * length t.entries ≤ out → letters_room t results benches rows out ≡ None
     room_for_letters out d = grind (arith, nat_tests)
 
   -- the letters that are written are those of the round

@@ -1,6 +1,6 @@
 // Each list entry's row, found for all entries in one pass: applicants in order, with a cursor for each workshop into its rows, which
 // are sorted by applicant. The steps are as many as there are rows and entries.
-ghost use Rattle.std.specs.Prelude.{◌≡◌, ℕ, ◌<◌, ◌≤◌, ◌&&◌, ltb, length, if◌then◌else◌, ◌==◌, nat_lt};
+ghost use Rattle.std.specs.Prelude.{◌≡◌, ℕ, ◌<◌, ◌≤◌, ◌&&◌, length, if◌then◌else◌, ◌==◌, nat_lt};
 ghost use Rattle.layout.specs.Slices.{laid, outcome};
 ghost use Rattle.layout.specs.Bytes.{refuse};
 ghost use Rattle.layout.specs.Tables.{workshops, most_workshops};

@@ -10,14 +10,13 @@ mod make;
 mod orders;
 mod program;
 mod stable;
-mod tally;
 mod trial;
 mod worked;
 
 use case::Case;
 use draw::Draw;
 use std::io;
-use tally::{FIRST_CHECK, LABELS, TOLD, Tally, WORKED};
+use trial::Tally;
 
 const ROUNDS: u64 = 10000;
 
@@ -30,22 +29,71 @@ fn tell(rt: &HostRuntime, check: &str, seed: u64, case: &Case) -> io::Result<()>
     println!(rt; "")
 }
 
-fn tell_worked(rt: &HostRuntime, check: &str, round: &str) -> io::Result<()> {
-    println!(rt; "mismatch: {check}, {round}")
-}
-
 fn line(rt: &HostRuntime, what: &str, number: u32) -> io::Result<()> {
     println!(rt; "{what} {number}")
 }
 
-fn tell_counts(rt: &HostRuntime, tally: &Tally) -> io::Result<()> {
-    for at in 0..TOLD {
-        if at == FIRST_CHECK {
-            println!(rt; "checks passed")?;
-        }
-        line(rt, LABELS[at], tally.counts[at])?;
-    }
-    Ok(())
+fn tell_rounds(rt: &HostRuntime, tally: &Tally) -> io::Result<()> {
+    line(rt, "random rounds", tally.rounds)?;
+    line(rt, "  with equal points", tally.ties)?;
+    line(rt, "  where the lots decide", tally.lots_decide)?;
+    line(rt, "  with several stable assignments", tally.several)?;
+    line(rt, "stable assignments found", tally.stable_seen)
+}
+
+fn tell_checks(rt: &HostRuntime, tally: &Tally) -> io::Result<()> {
+    println!(rt; "checks passed")?;
+    line(rt, "  the result is stable", tally.is_stable)?;
+    line(
+        rt,
+        "  nobody has it dearer in a stable assignment",
+        tally.dearest,
+    )?;
+    line(
+        rt,
+        "  the same applicants and places are left",
+        tally.same_left,
+    )?;
+    line(rt, "  all together, same result and asks", tally.together)?;
+    line(
+        rt,
+        "  one by one in a random order, same result and asks",
+        tally.one_by_one,
+    )?;
+    line(
+        rt,
+        "  applicants numbered anew, same result and asks",
+        tally.renumbered,
+    )?;
+    line(rt, "  another list gets nothing dearer", tally.other_list)?;
+    line(
+        rt,
+        "  an applicant more gets nobody else anything dearer",
+        tally.one_more,
+    )
+}
+
+fn tell_cuts(rt: &HostRuntime, tally: &Tally) -> io::Result<()> {
+    line(
+        rt,
+        "  a cut is the last who is kept, open or shut",
+        tally.cuts,
+    )?;
+    line(
+        rt,
+        "  what was got is the first wish whose cut is reached",
+        tally.first_reached,
+    )?;
+    line(
+        rt,
+        "  all letters of a round as the trials write them",
+        tally.letters,
+    )?;
+    line(
+        rt,
+        "  of an applicant's letters the right one is accepted and no other",
+        tally.judged,
+    )
 }
 
 fn random_rounds(rt: &HostRuntime, tally: &mut Tally) -> io::Result<u64> {
@@ -53,8 +101,7 @@ fn random_rounds(rt: &HostRuntime, tally: &mut Tally) -> io::Result<u64> {
     for seed in 0..ROUNDS {
         let mut draw = Draw::new(seed);
         let case = make::draw_case(&mut draw);
-        trial::trial(&case, &mut draw, tally);
-        if let Some(check) = tally.take_failed() {
+        if let Err(check) = trial::trial(&case, &mut draw, tally) {
             tell(rt, check, seed, &case)?;
             bad = bad.saturating_add(1);
         }
@@ -65,15 +112,18 @@ fn random_rounds(rt: &HostRuntime, tally: &mut Tally) -> io::Result<u64> {
 fn worked_rounds(rt: &HostRuntime) -> io::Result<u64> {
     let mut tally = Tally::new();
     let mut bad = 0u64;
-    for at in 0..worked::TABLE.len() {
+    for line in worked::TABLE {
         let mut draw = Draw::new(1);
-        trial::worked_trial(worked::TABLE[at], &mut draw, &mut tally);
-        if let Some(check) = tally.take_failed() {
-            tell_worked(rt, check, worked::TABLE[at])?;
+        if let Err(check) = trial::worked_trial(line, &mut draw, &mut tally) {
+            println!(rt; "mismatch: {check}, {line}")?;
             bad = bad.saturating_add(1);
         }
     }
-    line(rt, LABELS[WORKED], tally.counts[WORKED])?;
+    line(
+        rt,
+        "worked rounds that come out as in the table",
+        tally.worked,
+    )?;
     Ok(bad)
 }
 
@@ -81,6 +131,8 @@ fn main(rt: HostRuntime) -> io::Result<()> {
     let bad_worked = worked_rounds(&rt)?;
     let mut tally = Tally::new();
     let bad = random_rounds(&rt, &mut tally)?;
-    tell_counts(&rt, &tally)?;
+    tell_rounds(&rt, &tally)?;
+    tell_checks(&rt, &tally)?;
+    tell_cuts(&rt, &tally)?;
     println!(rt; "mismatches {}", bad_worked.saturating_add(bad))
 }

@@ -7,7 +7,7 @@ use crate::{bytes, cut};
 use asking::{Outcome, run};
 use codec::{Round, read};
 use cuts::cut_of;
-use layout::{Lot, Points};
+use layout::{Lot, Points, Refusal};
 use letters::write_letter;
 
 // What the program says of a round: who got what, the number of asks, the cuts, and whether its letters are those that the trials
@@ -48,9 +48,13 @@ fn got_of(case: &Case, left: &Left) -> Option<Got> {
     Some(got)
 }
 
-// A cut of the program's in the trials' words.
-fn in_words(cut: cuts::Cut) -> Cut {
-    match cut {
+fn cut_seen(round: &Round, left: &Left, w: usize) -> Option<Cut> {
+    let from = *round.seats.get(w)? as usize;
+    let to = *round.seats.get(w.checked_add(1)?)? as usize;
+    if from > to || to > 12 {
+        return None;
+    }
+    Some(match cut_of(&left.benches[from..to], round) {
         cuts::Cut::Open => cut::OPEN,
         cuts::Cut::Shut => cut::SHUT,
         cuts::Cut::Full(Points(points), Lot(lot)) => Cut {
@@ -58,25 +62,7 @@ fn in_words(cut: cuts::Cut) -> Cut {
             points,
             lot,
         },
-    }
-}
-
-// Where the bench of w begins; 13, past all benches, where the program has none.
-fn seats_before(round: &Round, w: usize) -> usize {
-    if w < round.seats.len() {
-        round.seats[w] as usize
-    } else {
-        13
-    }
-}
-
-fn cut_seen(round: &Round, left: &Left, w: usize) -> Option<Cut> {
-    let from = seats_before(round, w);
-    let to = seats_before(round, w.saturating_add(1));
-    if from > to || to > 12 {
-        return None;
-    }
-    Some(in_words(cut_of(&left.benches[from..to], round)))
+    })
 }
 
 fn cuts_seen(case: &Case, round: &Round, left: &Left) -> Option<[Cut; 4]> {
@@ -91,8 +77,8 @@ fn same_bytes(xs: &[u8], ys: &[u8]) -> bool {
     if xs.len() != ys.len() {
         return false;
     }
-    for i in 0..xs.len() {
-        if xs[i] != ys[i] {
+    for (x, y) in xs.iter().zip(ys.iter()) {
+        if *x != *y {
             return false;
         }
     }
@@ -145,7 +131,7 @@ fn ask_and_tell(case: &Case, round: &Round) -> Option<Answer> {
     })
 }
 
-fn read_and_answer(case: &Case, bytes: &[u8]) -> Option<Answer> {
+fn read_and_answer(case: &Case, bytes: &[u8]) -> Result<Option<Answer>, Refusal> {
     let mut seats = [0u32; 5];
     let mut lots = [0u16; 5];
     let mut starts = [0u32; 6];
@@ -153,7 +139,7 @@ fn read_and_answer(case: &Case, bytes: &[u8]) -> Option<Answer> {
     let mut row_starts = [0u32; 5];
     let mut row_applicants = [0u16; 20];
     let mut row_points = [0u16; 20];
-    let Ok(sizes) = read(
+    let sizes = read(
         bytes,
         &mut seats,
         &mut lots,
@@ -162,9 +148,7 @@ fn read_and_answer(case: &Case, bytes: &[u8]) -> Option<Answer> {
         &mut row_starts,
         &mut row_applicants,
         &mut row_points,
-    ) else {
-        return None;
-    };
+    )?;
     let round = Round::over(
         sizes,
         &seats,
@@ -175,11 +159,14 @@ fn read_and_answer(case: &Case, bytes: &[u8]) -> Option<Answer> {
         &row_applicants,
         &row_points,
     );
-    ask_and_tell(case, &round)
+    Ok(ask_and_tell(case, &round))
 }
 
 // What the program says; none where it refuses the round, or where its numbers do not fit each other.
 pub(crate) fn settle(case: &Case) -> Option<Answer> {
     let bytes = bytes::write(case);
-    read_and_answer(case, bytes.written())
+    match read_and_answer(case, bytes.written()) {
+        Ok(answer) => answer,
+        Err(_) => None,
+    }
 }

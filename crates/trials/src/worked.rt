@@ -45,16 +45,6 @@ impl Worked {
         }
     }
 
-    // A word that is no number, by its first letter: none, open, shut, or empty.
-    fn put_word(&mut self, index: usize, initial: u8) {
-        match initial {
-            b'n' => self.got.set(index, NONE),
-            b'o' => self.set_cut(index, 0, 0),
-            b's' => self.set_cut(index, 2, 0),
-            _ => {}
-        }
-    }
-
     // A word of the table, in its column, at an index of one of the groups between strokes.
     fn put(&mut self, column: usize, group: usize, index: usize, word: &str) {
         match column {
@@ -62,9 +52,14 @@ impl Worked {
             1 => self.case.workshops = index.saturating_add(1),
             _ => {}
         }
-        match word.parse::<u16>() {
-            Ok(x) => self.put_number(column, group, index, x),
-            Err(_) => self.put_word(index, initial(word)),
+        if let Ok(x) = word.parse::<u16>() {
+            self.put_number(column, group, index, x);
+        } else if word == "none" {
+            self.got.set(index, NONE);
+        } else if word == "open" {
+            self.set_cut(index, 0, 0);
+        } else if word == "shut" {
+            self.set_cut(index, 2, 0);
         }
     }
 
@@ -91,49 +86,33 @@ impl Worked {
     }
 }
 
-fn initial(word: &str) -> u8 {
-    match word.as_bytes() {
-        [x, ..] => *x,
-        [] => 0,
-    }
-}
-
-// A line of which nothing is read yet.
-fn unread() -> Worked {
+// A line of the table.
+pub(crate) fn read(line: &str) -> Worked {
     let mut case = make::blank(0, 0);
     for a in 0..5 {
         case.set_lot(a, a as u16 + 1);
     }
-    Worked {
+    let mut worked = Worked {
         case,
         got: Got::nothing(),
         kinds: [0; 4],
         cuts: [0; 4],
         asks: 0,
-    }
-}
-
-// A line of the table.
-pub(crate) fn read(line: &str) -> Worked {
-    let mut worked = unread();
+    };
     let mut column = 0usize;
     let mut group = 0usize;
     let mut index = 0usize;
     for word in line.split_whitespace() {
-        match initial(word) {
-            b';' => {
-                column = column.saturating_add(1);
-                group = 0;
-                index = 0;
-            }
-            b'/' => {
-                group = group.saturating_add(1);
-                index = 0;
-            }
-            _ => {
-                worked.put(column, group, index, word);
-                index = index.saturating_add(1);
-            }
+        if word == ";" {
+            column = column.saturating_add(1);
+            group = 0;
+            index = 0;
+        } else if word == "/" {
+            group = group.saturating_add(1);
+            index = 0;
+        } else {
+            worked.put(column, group, index, word);
+            index = index.saturating_add(1);
         }
     }
     worked
