@@ -4,8 +4,9 @@
     rename_definitions.py            at the top of the repository, once, right after the toolchain's own port script
 
 A name with a dash that a file of specs/ or proofs/ defines (a definition, a lemma, a field, a parameter, a local name) is renamed
-wherever it stands in specs/, proofs/ and the clauses of src/. Names that the checker makes, as those of goals and steps, and names of
-the library keep their dashes; so do comments, strings, and names of the code, which have none. Prints two names that fall together.
+wherever it stands in specs/, proofs/ and src/, where only clauses have such names. A name whose first word is one letter gets
+underscores too, whatever its case. Names that the checker makes, as those of goals and steps, and names of the library keep their dashes;
+so do comments and strings. Names given by `as` are left. Prints two names that fall together.
 """
 import collections
 import glob

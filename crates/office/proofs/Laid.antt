@@ -95,11 +95,11 @@ module _ (t u : Tables) (proper : Proper t) (same : u ≡ t) where
     unfolding cut_at
     cut_in_slice l = let h = rw number at l in rw (held, same) (ap (λ (b : List ℕ). cut_of_bench t b) (bench_part t proper w (rw same at h)).0)
 
-    pub bench_end : w < n → get_or u.seats (w + 1) 0 ≤ length bs
-    bench_end l = let h = rw number at l in rw (held, same) (bench_part t proper w (rw same at h)).1
-
-    pub bench_rises : w < n → get_or u.seats w 0 ≤ get_or u.seats (w + 1) 0
-    bench_rises l = let h = rw number at l in rw same (proper.seated.1 w (rw same at h))
+    -- a workshop's bench begins before it ends, and ends within the benches
+    pub bench_within : w < n → (get_or u.seats w 0 ≤ get_or u.seats (w + 1) 0) × (get_or u.seats (w + 1) 0 ≤ length bs)
+    bench_within l =
+        let h = rw number at l in
+        let k : w < workshops t = rw same at h in (rw same (proper.seated.1 w k), rw (held, same) (bench_part t proper w k).1)
 
     pub cut_of_none : n ≤ w → Shut ≡ cut_at t w
     cut_of_none l = let h = rw number at l in cut_past t proper w (rw same at h)

@@ -2,7 +2,7 @@ use Rattle.std.proofs.Common.{vec_items, ◌∙◌, arith}
 use Rattle.codec.specs.Rounds.{tables_of}
 use Rattle.office.specs.Settling.{tables_settled}
 use Rattle.office.proofs.Holding.{proper_owned}
-use Rattle.office.proofs.Laid.{cut_in_slice, bench_end, bench_rises, cut_of_none}
+use Rattle.office.proofs.Laid.{cut_in_slice, bench_within, cut_of_none}
 use Rattle.office.proofs.settled.Settled.cut.Goals as goal
 
 pub returns-then-workshop-workshops : goal.returns-then-workshop-workshops
@@ -12,15 +12,11 @@ returns-then-workshop-workshops c =
 
 pub slice_bounds-cut_of-end : goal.slice_bounds-cut_of-end
 slice_bounds-cut_of-end c =
-    let up =
-    bench_rises (tables_settled c.args.self.now) (tables_of c.view-round.result) (proper_owned c.args.self.now.held) c.view-round.ensures
+    let within =
+    bench_within (tables_settled c.args.self.now) (tables_of c.view-round.result) (proper_owned c.args.self.now.held) c.view-round.ensures
     c.as_slice.result.now (c.as_slice.ensures.value ∙ c.args.self.now.seated) c.args.workshop c.workshops.result c.workshops.ensures c.if-workshop-workshops.false
     in
-    let end =
-    bench_end (tables_settled c.args.self.now) (tables_of c.view-round.result) (proper_owned c.args.self.now.held) c.view-round.ensures
-    c.as_slice.result.now (c.as_slice.ensures.value ∙ c.args.self.now.seated) c.args.workshop c.workshops.result c.workshops.ensures c.if-workshop-workshops.false
-    in
-    omega (arith, up, end)
+    omega (arith, within.0, within.1)
 
 pub returns : goal.returns
 returns c =
