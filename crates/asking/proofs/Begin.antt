@@ -1,18 +1,25 @@
 -- The beginning of a run: nobody has asked, and all seats are empty.
-use Rattle.std.proofs.Common.{◌≡◌, ℕ, ◌+◌, ◌-◌, ◌<◌, ◌≤◌, List, ◌++◌, length, get_or, take, drop, replicate, sym, ap, ◌∙◌, ap₂, inl, inr, arith}
+use Rattle.std.proofs.Common.{◌≡◌, ℕ, ◌+◌, ◌-◌, ◌<◌, ◌≤◌, List, ◌++◌, length, get_or, take, drop, replicate, None, sym, ap, ◌∙◌, ap₂, inl, inr, arith}
 use Rattle.std.specs.List.{between}
+use Rattle.std.proofs.lemmas.Bool.Decides.{nat_tests}
 use Rattle.std.proofs.lemmas.Bool.{cases_lt}
 use Rattle.std.proofs.lemmas.List.{length-append, length-replicate, length-drop, length-take, get_or_append_left, get_or-replicate, take-append-le, take-replicate, drop-append-le, drop-replicate, drop_at}
 use Rattle.layout.specs.Slices.{over}
 use Rattle.layout.specs.Tables.{Tables, Proper, applicants, workshops, places_at}
 use Rattle.points.specs.Standing.{no_row, row_worth, market}
 use Rattle.bench.specs.Row.{after_all, empty_bench}
-use Rattle.asking.specs.Ended.{bench_of}
+use Rattle.asking.specs.Ended.{bench_of, no_room}
 use Rattle.asking.specs.Asking.{gone, counts, at_rest, Asking, Behind}
 use Rattle.asking.proofs.Progress.{going_begins, not_gone}
 use Rattle.asking.proofs.Parts.{counts_at, counts_past}
 use Rattle.asking.proofs.Gathered.{rows_at_none}
 use Rattle.asking.proofs.Found.{seats_rise, seats_in_all}
+
+-- slices that are long enough
+pub room_there : (t : Tables) (results benches rows : ℕ) → no_room t results benches rows ≡ None →
+    (applicants t ≤ results) × (get_or t.seats (workshops t) 0 ≤ benches) × (length t.entries ≤ rows)
+room_there t results benches rows h =
+    (grind (arith, nat_tests), grind (arith, nat_tests), grind (arith, nat_tests))
 
 module _ (x n : ℕ) (old : List ℕ) (room : n ≤ length old) where
   length_cleared : length (over (replicate n x) old) ≡ length old

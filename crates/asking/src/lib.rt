@@ -21,33 +21,76 @@ pub struct Outcome {
     pub placed: usize,
 }
 
-// Runs a round. It finds the row of every list entry, and lets all applicants ask until nobody is turned down any more. Then `results`
-// has for each applicant the position in its list of what it got, or 255, and `benches` has for each workshop the rows of those it
-// keeps, best first. Slices that are too short are refused and stay as they are.
-pub fn run(
-    round: &Round,
-    rows: &mut [u32],
-    results: &mut [u16],
-    benches: &mut [u32],
-) -> Result<Outcome, Refusal>
-    ensures value { result ≡ outcome (no_room (tables_of round.now) (length results.old) (length benches.old) (length rows.old)) (record { asks = asks (market (tables_of round.now)); placed = placed (market (tables_of round.now)) }) }
-    ensures rows { rows.new ≡ laid result (rows_found (tables_of round.now)) rows.old }
-    ensures results { results.new ≡ laid result (table (told (market (tables_of round.now))) (applicants (tables_of round.now))) results.old }
-    ensures benches { benches.new ≡ laid result (benches_of (tables_of round.now)) benches.old }
+// The slices that asking works on: a row for every list entry, a result for every applicant, and all the benches, one after the
+// other. They are lent for a run.
+#[derive(Drop)]
+pub struct Desk<'a> {
+    pub rows: &'a mut [u32],
+    pub results: &'a mut [u16],
+    pub benches: &'a mut [u32],
+}
+
+// The same slices once a run has ended, to be read.
+#[derive(Clone, Copy)]
+pub struct Left<'a> {
+    pub rows: &'a [u32],
+    pub results: &'a [u16],
+    pub benches: &'a [u32],
+}
+
+impl Desk<'_> {
+    // What lies on the desk, to be read.
+    pub fn left(&self) -> Left<'_>
+        ensures rows { result.rows.now ≡ self.now.rows.now }
+        ensures results { result.results.now ≡ self.now.results.now }
+        ensures benches { result.benches.now ≡ self.now.benches.now }
+    {
+        Left {
+            rows: self.rows,
+            results: self.results,
+            benches: self.benches,
+        }
+    }
+}
+
+impl Left<'_> {
+    // Whether the slices are long enough for the round; if not, the first that is too short.
+    pub fn room(&self, round: &Round) -> Result<(), Refusal>
+        ensures { result ≡ outcome (no_room (tables_of round.now) (length self.now.results.now) (length self.now.benches.now) (length self.now.rows.now)) tt }
+    {
+        if self.results.len() < round.lots.len() {
+            return Err(Refusal::NoRoom(Lent::Results));
+        }
+        if self.benches.len() < round.seats[round.seats.len() - 1] as usize {
+            return Err(Refusal::NoRoom(Lent::Benches));
+        }
+        if self.rows.len() < round.entries.len() {
+            return Err(Refusal::NoRoom(Lent::RoundTables));
+        }
+        Ok(())
+    }
+}
+
+// Runs a round. It finds the row of every list entry, and lets all applicants ask until nobody is turned down any more. Then the
+// desk's `results` have for each applicant the position in its list of what it got, or 255, and its `benches` for each workshop the
+// rows of those it keeps, best first. Slices that are too short are refused and stay as they are.
+pub fn run(round: &Round, desk: &mut Desk) -> Result<Outcome, Refusal>
+    ensures value { result ≡ outcome (no_room (tables_of round.now) (length desk.old.results.now) (length desk.old.benches.now) (length desk.old.rows.now)) (record { asks = asks (market (tables_of round.now)); placed = placed (market (tables_of round.now)) }) }
+    ensures rows { desk.new.rows.now ≡ laid result (rows_found (tables_of round.now)) desk.old.rows.now }
+    ensures results { desk.new.results.now ≡ laid result (table (told (market (tables_of round.now))) (applicants (tables_of round.now))) desk.old.results.now }
+    ensures benches { desk.new.benches.now ≡ laid result (benches_of (tables_of round.now)) desk.old.benches.now }
+    ensures same_rows { desk.new.rows.ghost_name ≡ desk.old.rows.ghost_name }
+    ensures same_results { desk.new.results.ghost_name ≡ desk.old.results.ghost_name }
+    ensures same_benches { desk.new.benches.ghost_name ≡ desk.old.benches.ghost_name }
     ensures fair { Fair (tables_of round.now) }
 {
-    let applicants = round.lots.len();
-    if results.len() < applicants {
-        return Err(Refusal::NoRoom(Lent::Results));
-    }
+    desk.left().room(round)?;
+    let rows = &mut *desk.rows;
+    let results = &mut *desk.results;
+    let benches = &mut *desk.benches;
+    points::find_rows(round, rows)?;
     let seats = round.seats[round.seats.len() - 1] as usize;
-    if benches.len() < seats {
-        return Err(Refusal::NoRoom(Lent::Benches));
-    }
-    if let Err(refusal) = points::find_rows(round, rows) {
-        return Err(refusal);
-    }
-    results[0..applicants].fill(0);
+    results[0..round.lots.len()].fill(0);
     benches[0..seats].fill(u32::MAX);
     let asks = ask_all(round, rows, results, benches);
     let placed = tell(round, results);

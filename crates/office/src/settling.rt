@@ -1,8 +1,13 @@
 // From the bytes of a round to who is where, the benches and the letters.
-ghost use Rattle.std.specs.Prelude.{◌≡◌, IfOk, Ok, MatchResult};
+ghost use Rattle.std.specs.Prelude.{◌≡◌, length, IfOk, Ok, MatchResult};
+ghost use Rattle.layout.specs.Slices.{table, laid, outcome};
+ghost use Rattle.layout.specs.Tables.{applicants};
 ghost use Rattle.layout.specs.Bytes.{fault, decode};
 ghost use Rattle.layout.specs.Encode.{AsWritten};
 ghost use Rattle.codec.specs.Rounds.{tables_of};
+ghost use Rattle.round.specs.Market.{asks, placed};
+ghost use Rattle.points.specs.Standing.{rows_found, market};
+ghost use Rattle.asking.specs.Ended.{told, benches_of, no_room};
 ghost use Rattle.texts.specs.Faults.{Faulty};
 ghost use Rattle.office.specs.Outcome.{letters_of};
 ghost use Rattle.office.specs.Owned.{tables_owned};
@@ -12,8 +17,9 @@ ghost use Rattle.office.specs.Settling.{tables_settled, Left};
 use crate::owned::OwnedRound;
 use crate::reading::read_owned;
 use crate::settled::Settled;
-use asking::Outcome;
+use asking::{Desk, Outcome};
 use codec::Round;
+use layout::Refusal;
 use std::alloc::{AllocError, Global};
 use texts::Fault;
 
@@ -74,7 +80,7 @@ fn ask_all(heap: Global, round: &Round) -> Result<Asked, AllocError>
     let mut rows = vec![in heap; 0u32; round.entries.len()]?;
     let mut results = vec![in heap; 0u16; round.lots.len()]?;
     let mut benches = vec![in heap; 0u32; round.seats[round.seats.len() - 1] as usize]?;
-    match asking::run(round, &mut rows, &mut results, &mut benches) {
+    match ask_on(round, &mut rows, &mut results, &mut benches) {
         Ok(outcome) => Ok(Asked {
             rows,
             results,
@@ -83,6 +89,29 @@ fn ask_all(heap: Global, round: &Round) -> Result<Asked, AllocError>
         }),
         Err(_) => unreachable(),
     }
+}
+
+// Lets all applicants ask on a desk of these slices. It is a function of its own because a proof loses sight of a Vec whose elements
+// are lent to a struct in the same function.
+fn ask_on(
+    round: &Round,
+    rows: &mut [u32],
+    results: &mut [u16],
+    benches: &mut [u32],
+) -> Result<Outcome, Refusal>
+    ensures value { result ≡ outcome (no_room (tables_of round.now) (length results.old) (length benches.old) (length rows.old)) (record { asks = asks (market (tables_of round.now)); placed = placed (market (tables_of round.now)) }) }
+    ensures rows { rows.new ≡ laid result (rows_found (tables_of round.now)) rows.old }
+    ensures results { results.new ≡ laid result (table (told (market (tables_of round.now))) (applicants (tables_of round.now))) results.old }
+    ensures benches { benches.new ≡ laid result (benches_of (tables_of round.now)) benches.old }
+{
+    asking::run(
+        round,
+        &mut Desk {
+            rows,
+            results,
+            benches,
+        },
+    )
 }
 
 // Writes all letters.

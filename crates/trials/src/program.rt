@@ -4,7 +4,7 @@ use crate::case::{Case, Got};
 use crate::cut::Cut;
 use crate::orders::Ended;
 use crate::{bytes, cut};
-use asking::{Outcome, run};
+use asking::{Desk, Outcome, run};
 use codec::{Round, read};
 use cuts::cut_of;
 use layout::{Lot, Points, Refusal};
@@ -109,7 +109,12 @@ fn ask_and_tell(case: &Case, round: &Round) -> Option<Answer> {
     let mut rows = [0u32; 20];
     let mut results = [0u16; 5];
     let mut benches = [0u32; 12];
-    let Ok(outcome) = run(round, &mut rows, &mut results, &mut benches) else {
+    let mut desk = Desk {
+        rows: &mut rows,
+        results: &mut results,
+        benches: &mut benches,
+    };
+    let Ok(outcome) = run(round, &mut desk) else {
         return None;
     };
     let Outcome { asks, placed } = outcome;

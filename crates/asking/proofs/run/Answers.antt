@@ -1,31 +1,21 @@
 -- Refusals in their order; a run begins with nobody having asked, and ends where all have settled.
-use Rattle.std.proofs.Common.{◌≡◌, ℕ, ◌-◌, ◌<◌, ◌≤◌, Bool, true, false, List, ◌++◌, length, get_or, take, drop, replicate, Ok, Err, Result, refl, ap, ◌∙◌, arith}
-use Rattle.std.proofs.lemmas.Bool.{lt-ltb, le-ltb}
+use Rattle.std.proofs.Common.{◌≡◌, ℕ, ◌-◌, ◌<◌, ◌≤◌, List, ◌++◌, length, get_or, take, drop, replicate, None, Ok, Result, refl, ap, ◌∙◌}
 use Rattle.std.proofs.lemmas.List.{take_at}
-use Rattle.layout.specs.Slices.{outcome}
-use Rattle.layout.specs.Bytes.{refuse}
 use Rattle.layout.specs.Tables.{Tables, Proper, applicants, workshops}
 use Rattle.layout.specs.declared.Refusal.{Refusal}
 use Rattle.points.specs.Standing.{no_row}
 use Rattle.points.proofs.Lots.{tables_proper}
 use Rattle.asking.specs.declared.Outcome.{Outcome}
 use Rattle.asking.specs.Asking.{Asking, Resting, at_rest}
-use Rattle.asking.proofs.Begin.{over_filled, fresh, asking_begins, behind_begins}
+use Rattle.asking.proofs.Begin.{room_there, over_filled, fresh, asking_begins, behind_begins}
 use Rattle.asking.proofs.Loops.{resting_since}
 use Rattle.asking.proofs.Finish.{asks_are, placed_are, told_are, benches_are}
 use Rattle.asking.proofs.Found.{length_rows_found}
 use Rattle.asking.proofs.Fairness.{fair}
+use Rattle.codec.specs.Rounds.{tables_of}
+use Rattle.codec.proofs.Firsts.{none_from_ok}
+use Rattle.asking.specs.Ended.{no_room}
 use Rattle.asking.proofs.run.Goals as goal
-
--- a refusal is the same whatever is refused
-refused : {T U : Type 0} (b : Bool) (e r : Refusal) (x : T) (y : U) → ◌≡◌ {A = Result T Refusal} (Err r) (outcome (refuse b e) x) → ◌≡◌ {A = Result U Refusal} (Err r) (outcome (refuse b e) y)
-refused true e r x y h = let same : r ≡ e = cc in rw same
-refused false e r x y h = let z : ◌≡◌ {A = ℕ} 0 1 = cc in absurd (omega arith)
-
--- what is not refused has no fault
-accepted : {T : Type 0} (b : Bool) (e : Refusal) (x y : T) → ◌≡◌ {A = Result T Refusal} (Ok x) (outcome (refuse b e) y) → b ≡ false
-accepted true e x y h = let z : ◌≡◌ {A = ℕ} 0 1 = cc in absurd (omega arith)
-accepted false e x y h = refl
 
 same_outcome : (a b p q : ℕ) → a ≡ b → p ≡ q → ◌≡◌ {A = Result Outcome Refusal} (Ok (record { asks = a; placed = p })) (Ok (record { asks = b; placed = q }))
 same_outcome a b p q e f = rw (e, f)
@@ -53,41 +43,38 @@ module _ (t : Tables) (ok : Proper t) (old_results old_benches part bench_part :
       (over_filled 0 (applicants t) old_results part room_results is_part)
       (over_filled no_row (get_or t.seats (workshops t) 0) old_benches bench_part room_benches is_bench_part))
 
-pub returns-then-results-applicants : goal.returns-then-results-applicants
-returns-then-results-applicants c =
-    record { value = rw (lt-ltb _ _ c.if-results-applicants.true); rows = refl; results = refl; benches = refl; fair = fair _ (tables_proper c.args.round.now) }
+pub returns-in_err-room-clause-fair : goal.returns-in_err-room-clause-fair
+returns-in_err-room-clause-fair c = fair _ (tables_proper c.args.round.now)
 
-pub returns-then-benches-seats : goal.returns-then-benches-seats
-returns-then-benches-seats c =
-    record { value = rw (le-ltb _ _ c.if-results-applicants.false, lt-ltb _ _ c.if-benches-seats.true); rows = refl; results = refl; benches = refl; fair = fair _ (tables_proper c.args.round.now) }
-
-pub returns-in-Err : goal.returns-in-Err
-returns-in-Err c =
-    record {
-      value = rw (le-ltb _ _ c.if-results-applicants.false, le-ltb _ _ c.if-benches-seats.false) (refused _ _ _ _ _ c.in-Err.ensures.outcome);
-      rows = c.in-Err.ensures.rows;
-      results = refl;
-      benches = refl;
-      fair = fair _ (tables_proper c.args.round.now);
-    }
+pub returns-in_err-find_rows-clause-fair : goal.returns-in_err-find_rows-clause-fair
+returns-in_err-find_rows-clause-fair c = fair _ (tables_proper c.args.round.now)
 
 pub ask_all-asks-requires : goal.ask_all-asks-requires
 ask_all-asks-requires c =
+    let accepted : no_room (tables_of c.args.round.now) (length c.args.desk.now.results.now) (length c.args.desk.now.benches.now) (length c.args.desk.now.rows.now) ≡ None =
+    rw (c.left.ensures.results, c.left.ensures.benches, c.left.ensures.rows) at (none_from_ok _ _ _ c.in_ok-room.ensures).0 in
+    let room = room_there (tables_of c.args.round.now) _ _ _ accepted in
     record {
-      found = ap (take _) c.in_default.ensures.rows ∙ take_at _ _ _ (length_rows_found _ (tables_proper c.args.round.now));
-      asking = begins _ (tables_proper c.args.round.now) c.args.results.now c.args.benches.now c.fill.new.self c.fill-2.new.self c.if-results-applicants.false c.if-benches-seats.false (c.fill.ensures.after (λ y e. e)) (c.fill-2.ensures.after (λ y e. e));
-      fresh = none_asked _ (tables_proper c.args.round.now) c.args.results.now c.args.benches.now c.fill.new.self c.fill-2.new.self c.if-results-applicants.false c.if-benches-seats.false (c.fill.ensures.after (λ y e. e)) (c.fill-2.ensures.after (λ y e. e));
+      found = ap (take _) c.in_ok-find_rows.ensures.rows ∙ take_at _ _ _ (length_rows_found _ (tables_proper c.args.round.now));
+      asking = begins _ (tables_proper c.args.round.now) c.args.desk.now.results.now c.args.desk.now.benches.now c.fill.new.self c.fill-2.new.self room.0 room.1 (c.fill.ensures.after (λ y e. e)) (c.fill-2.ensures.after (λ y e. e));
+      fresh = none_asked _ (tables_proper c.args.round.now) c.args.desk.now.results.now c.args.desk.now.benches.now c.fill.new.self c.fill-2.new.self room.0 room.1 (c.fill.ensures.after (λ y e. e)) (c.fill-2.ensures.after (λ y e. e));
     }
 
 pub returns : goal.returns
 returns c =
-    let rest = ends _ (tables_proper c.args.round.now) c.args.results.now c.args.benches.now c.fill.new.self c.fill-2.new.self c.if-results-applicants.false c.if-benches-seats.false (c.fill.ensures.after (λ y e. e)) (c.fill-2.ensures.after (λ y e. e)) _ _ _ c.ask_all-asks.ensures in
+    let accepted : no_room (tables_of c.args.round.now) (length c.args.desk.now.results.now) (length c.args.desk.now.benches.now) (length c.args.desk.now.rows.now) ≡ None =
+    rw (c.left.ensures.results, c.left.ensures.benches, c.left.ensures.rows) at (none_from_ok _ _ _ c.in_ok-room.ensures).0 in
+    let room = room_there (tables_of c.args.round.now) _ _ _ accepted in
+    let rest = ends _ (tables_proper c.args.round.now) c.args.desk.now.results.now c.args.desk.now.benches.now c.fill.new.self c.fill-2.new.self room.0 room.1 (c.fill.ensures.after (λ y e. e)) (c.fill-2.ensures.after (λ y e. e)) _ _ _ c.ask_all-asks.ensures in
     record {
       value =
-          rw (le-ltb _ _ c.if-results-applicants.false, le-ltb _ _ c.if-benches-seats.false, accepted _ _ _ _ c.in_default.ensures.outcome)
+          rw accepted
           (same_outcome _ _ _ _ (asks_are _ (tables_proper c.args.round.now) _ _ _ _ _ rest) (c.tell-placed.ensures.placed ∙ placed_are _ (tables_proper c.args.round.now) _ _ _ _ _ rest));
-      rows = c.in_default.ensures.rows;
+      rows = c.in_ok-find_rows.ensures.rows;
       results = c.tell-placed.ensures.results ∙ told_are _ (tables_proper c.args.round.now) _ _ _ _ _ rest;
       benches = benches_are _ (tables_proper c.args.round.now) _ _ _ _ _ rest;
+      same_rows = refl;
+      same_results = refl;
+      same_benches = refl;
       fair = fair _ (tables_proper c.args.round.now);
     }

@@ -17,18 +17,18 @@ unfolding results_of
 returns c =
     let t = tables_of c.args.round.now in
     let ok = tables_proper c.args.round.now in
-    let counts = (none_from_ok _ _ c.in-Ok.outcome (sym c.in-Ok.is ∙ c.run.ensures.value)).1 in
+    let counts = (none_from_ok _ _ c.in-Ok.outcome (sym c.in-Ok.is ∙ c.ask_on.ensures.value)).1 in
     record {
       found =
-          items_refilled c.in_ok-rows.rows c.run.new.rows (omega arith)
+          items_refilled c.in_ok-rows.rows c.ask_on.new.rows (omega arith)
           ∙ c.in-Ok.ensures.rows
           ∙ over_all (rows_found t) c.deref_mut.result.now (omega (arith, length_rows_found t ok, c.in_ok-rows.ensures.len));
       told =
-          items_refilled c.in_ok-results.results c.run.new.results (omega arith)
+          items_refilled c.in_ok-results.results c.ask_on.new.results (omega arith)
           ∙ c.in-Ok.ensures.results
           ∙ over_all (results_of t) c.deref_mut-2.result.now (omega (arith, length_results t ok, c.in_ok-results.ensures.len));
       seated =
-          items_refilled c.in_ok-benches.benches c.run.new.benches (omega arith)
+          items_refilled c.in_ok-benches.benches c.ask_on.new.benches (omega arith)
           ∙ c.in-Ok.ensures.benches
           ∙ over_all (benches_of t) c.deref_mut-3.result.now (omega (arith, length_benches t ok, c.in_ok-benches.ensures.len));
       asked = sym (ap (λ (o : Outcome). o.asks) counts);
