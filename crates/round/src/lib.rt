@@ -17,67 +17,49 @@ pub fn keep_of(a: u32, b: u32, pa: u32, pb: u32) -> u32
 // The theorems of deferred acceptance at every lawful market: each function's contract is one of them.
 
 // In any order, one by one or in groups, asking ends the same way and with as many asks.
-pub fn same_end() -> u8
+pub fn same_end()
     ensures { SameEnd }
-{
-    0
-}
+{}
 
 // Asking all together is one of these orders, and it ends with nobody turned down.
-pub fn end_closed() -> u8
+pub fn end_closed()
     ensures { EndClosed }
-{
-    0
-}
+{}
 
 // There are at most as many asks as list entries.
-pub fn few_asks() -> u8
+pub fn few_asks()
     ensures { FewAsks }
-{
-    0
-}
+{}
 
 // The end is stable.
-pub fn end_stable() -> u8
+pub fn end_stable()
     ensures { EndStable }
-{
-    0
-}
+{}
 
 // No stable assignment gives anybody anything dearer than the end does.
-pub fn end_dearest() -> u8
+pub fn end_dearest()
     ensures { EndDearest }
-{
-    0
-}
+{}
 
 // All stable assignments place the same applicants, and as many at each workshop.
-pub fn same_numbers() -> u8
+pub fn same_numbers()
     ensures { SameNumbers }
-{
-    0
-}
+{}
 
 // One applicant more gets nobody else anything dearer.
-pub fn one_more() -> u8
+pub fn one_more()
     ensures { OneMore }
-{
-    0
-}
+{}
 
 // Of those who change their lists, not all get something dearer.
-pub fn not_all_gain() -> u8
+pub fn not_all_gain()
     ensures { NotAllGain }
-{
-    0
-}
+{}
 
 // No list gets anybody anything dearer than its true list.
-pub fn no_gain() -> u8
+pub fn no_gain()
     ensures { NoGain }
-{
-    0
-}
+{}
 
 // What is promised of every round: the given statements and those beyond them.
 mod given;
