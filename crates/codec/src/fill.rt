@@ -3,34 +3,26 @@ ghost use Rattle.std.specs.Prelude.{◌≡◌, ◌+◌, ◌-◌, ◌≤◌, leng
 ghost use Rattle.layout.specs.Slices.{over, table, laid, outcome, or_else};
 ghost use Rattle.layout.specs.Bytes.{byte, places_from, seats_before, fault, applicants_in, record_at, lot_in, start_of, entries_below, workshops_in, rows_in, row_at, row_applicant_in, row_points_in, rows_before, sizes_in, tables_in};
 ghost use Rattle.layout.specs.Encode.{AsWritten};
-ghost use Rattle.codec.specs.Fronts.{enough, room_fault, fronts, Ready};
 ghost use Rattle.codec.specs.Puts.{put};
+ghost use Rattle.codec.specs.Spaces.{suffices, no_room, front, Holds, SameSlices};
 
 use crate::bytes::word_in;
 use crate::judge::check;
 use crate::limits::PLACES_FROM;
+use crate::space::Space;
 use layout::{Lent, Refusal, Sizes};
 
-// Whether slices of these lengths have room for the tables.
-fn has_room(
-    sizes: Sizes,
-    seats: usize,
-    lots: usize,
-    starts: usize,
-    entries: usize,
-    row_starts: usize,
-    row_applicants: usize,
-    row_points: usize,
-) -> bool
-    ensures { result ≡ enough sizes seats lots starts entries row_starts row_applicants row_points }
+// Whether the space suffices for the tables.
+fn has_room(sizes: Sizes, space: &Space) -> bool
+    ensures { result ≡ suffices sizes space.now }
 {
-    sizes.workshops < seats
-        && sizes.applicants <= lots
-        && sizes.applicants < starts
-        && sizes.entries <= entries
-        && sizes.workshops < row_starts
-        && sizes.rows <= row_applicants
-        && sizes.rows <= row_points
+    sizes.workshops < space.seats.len()
+        && sizes.applicants <= space.lots.len()
+        && sizes.applicants < space.starts.len()
+        && sizes.entries <= space.entries.len()
+        && sizes.workshops < space.row_starts.len()
+        && sizes.rows <= space.row_applicants.len()
+        && sizes.rows <= space.row_points.len()
 }
 
 // The sums of the places.
@@ -137,40 +129,24 @@ fn fill_rows(
 }
 
 // The tables of the round that the bytes are, laid over the front of the slices, or the first fault; slices that are too short come
-// after all faults of the bytes. A refusal leaves every slice as it was.
-pub fn read(
-    bytes: &[u8],
-    seats: &mut [u32],
-    lots: &mut [u16],
-    starts: &mut [u32],
-    entries: &mut [u16],
-    row_starts: &mut [u32],
-    row_applicants: &mut [u16],
-    row_points: &mut [u16],
-) -> Result<Sizes, Refusal>
-    ensures answer { result ≡ outcome (or_else (fault bytes.now) (room_fault (sizes_in bytes.now) seats.old lots.old starts.old entries.old row_starts.old row_applicants.old row_points.old)) (sizes_in bytes.now) }
-    ensures seated { seats.new ≡ laid result (tables_in bytes.now).seats seats.old }
-    ensures drawn { lots.new ≡ laid result (tables_in bytes.now).lots lots.old }
-    ensures started { starts.new ≡ laid result (tables_in bytes.now).starts starts.old }
-    ensures listed { entries.new ≡ laid result (tables_in bytes.now).entries entries.old }
-    ensures sheeted { row_starts.new ≡ laid result (tables_in bytes.now).row_starts row_starts.old }
-    ensures rowed { row_applicants.new ≡ laid result (tables_in bytes.now).row_applicants row_applicants.old }
-    ensures pointed { row_points.new ≡ laid result (tables_in bytes.now).row_points row_points.old }
+// after all faults of the bytes. A refusal leaves every slice as it was. The space is of the same slices afterwards, so that whoever
+// lent them knows what they hold.
+pub fn read(bytes: &[u8], space: &mut Space) -> Result<Sizes, Refusal>
+    ensures answer { result ≡ outcome (or_else (fault bytes.now) (no_room (sizes_in bytes.now) space.old)) (sizes_in bytes.now) }
+    ensures seated { space.new.seats.now ≡ laid result (tables_in bytes.now).seats space.old.seats.now }
+    ensures drawn { space.new.lots.now ≡ laid result (tables_in bytes.now).lots space.old.lots.now }
+    ensures started { space.new.starts.now ≡ laid result (tables_in bytes.now).starts space.old.starts.now }
+    ensures listed { space.new.entries.now ≡ laid result (tables_in bytes.now).entries space.old.entries.now }
+    ensures sheeted { space.new.row_starts.now ≡ laid result (tables_in bytes.now).row_starts space.old.row_starts.now }
+    ensures rowed { space.new.row_applicants.now ≡ laid result (tables_in bytes.now).row_applicants space.old.row_applicants.now }
+    ensures pointed { space.new.row_points.now ≡ laid result (tables_in bytes.now).row_points space.old.row_points.now }
     ensures written { AsWritten bytes.now }
-    ensures ready { IfOk result (λ s. Ready s seats.new lots.new starts.new entries.new row_starts.new row_applicants.new row_points.new) }
-    ensures whole { IfOk result (λ s. fronts s seats.new lots.new starts.new entries.new row_starts.new row_applicants.new row_points.new ≡ tables_in bytes.now) }
+    ensures ready { IfOk result (λ s. Holds s space.new) }
+    ensures whole { IfOk result (λ s. front s space.new ≡ tables_in bytes.now) }
+    ensures same_slices { SameSlices space.old space.new }
 {
     let sizes = check(bytes)?;
-    if !has_room(
-        sizes,
-        seats.len(),
-        lots.len(),
-        starts.len(),
-        entries.len(),
-        row_starts.len(),
-        row_applicants.len(),
-        row_points.len(),
-    ) {
+    if !has_room(sizes, space) {
         return Err(Refusal::NoRoom(Lent::RoundTables));
     }
     let Sizes {
@@ -181,16 +157,23 @@ pub fn read(
     } = sizes;
     let records_from = PLACES_FROM + workshops;
     let rows_from = records_from + 3 * applicants + listed;
-    fill_seats(bytes, workshops, seats);
-    fill_lists(bytes, records_from, applicants, lots, starts, entries);
+    fill_seats(bytes, workshops, space.seats);
+    fill_lists(
+        bytes,
+        records_from,
+        applicants,
+        space.lots,
+        space.starts,
+        space.entries,
+    );
     fill_rows(
         bytes,
         rows_from + 2,
         rows,
         workshops,
-        row_starts,
-        row_applicants,
-        row_points,
+        space.row_starts,
+        space.row_applicants,
+        space.row_points,
     );
     Ok(sizes)
 }

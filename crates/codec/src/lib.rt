@@ -9,6 +9,7 @@ mod judge;
 mod limits;
 mod measuring;
 mod output;
+mod space;
 mod tables;
 mod view;
 
@@ -17,4 +18,5 @@ pub use judge::check;
 pub use limits::{MOST_APPLICANTS, MOST_ENTRIES, MOST_PLACES, MOST_ROWS, MOST_WORKSHOPS};
 pub use measuring::measure;
 pub use output::write;
+pub use space::Space;
 pub use tables::Round;

@@ -5,7 +5,7 @@ ghost use Rattle.std.specs.Prelude.{◌<◌, ◌≤◌};
 
 #[cfg(test)]
 mod tests {
-    use codec::Round;
+    use codec::{Round, Space};
     use layout::{Lent, Refusal, Sizes};
     use std::test::Fail;
 
@@ -143,16 +143,16 @@ mod tests {
             let mut row_starts = [9u32; 3];
             let mut row_applicants = [9u16; 2];
             let mut row_points = [9u16; 2];
-            let Err(e) = codec::read(
-                &ROUND,
-                &mut seats[0..cut(turn, 0, 3)],
-                &mut lots[0..cut(turn, 1, 2)],
-                &mut starts[0..cut(turn, 2, 3)],
-                &mut entries[0..cut(turn, 3, 3)],
-                &mut row_starts[0..cut(turn, 4, 3)],
-                &mut row_applicants[0..cut(turn, 5, 2)],
-                &mut row_points[0..cut(turn, 6, 2)],
-            ) else {
+            let mut space = Space {
+                seats: &mut seats[0..cut(turn, 0, 3)],
+                lots: &mut lots[0..cut(turn, 1, 2)],
+                starts: &mut starts[0..cut(turn, 2, 3)],
+                entries: &mut entries[0..cut(turn, 3, 3)],
+                row_starts: &mut row_starts[0..cut(turn, 4, 3)],
+                row_applicants: &mut row_applicants[0..cut(turn, 5, 2)],
+                row_points: &mut row_points[0..cut(turn, 6, 2)],
+            };
+            let Err(e) = codec::read(&ROUND, &mut space) else {
                 return Err(Fail::new("a slice that is too short is filled"));
             };
             assert_eq!(rt; e.number(), 10);
@@ -172,16 +172,16 @@ mod tests {
     #[test]
     fn faults_before_room(rt: HostRuntime) {
         for k in 0..27 {
-            let r = codec::read(
-                &ROUND[0..k],
-                &mut [],
-                &mut [],
-                &mut [],
-                &mut [],
-                &mut [],
-                &mut [],
-                &mut [],
-            );
+            let mut space = Space {
+                seats: &mut [],
+                lots: &mut [],
+                starts: &mut [],
+                entries: &mut [],
+                row_starts: &mut [],
+                row_applicants: &mut [],
+                row_points: &mut [],
+            };
+            let r = codec::read(&ROUND[0..k], &mut space);
             assert_eq!(rt; r, Err(Refusal::Short(k)));
         }
     }
@@ -196,33 +196,17 @@ mod tests {
         let mut row_starts = [9u32; 4];
         let mut row_applicants = [9u16; 3];
         let mut row_points = [9u16; 3];
-        let sizes = codec::read(
-            &ROUND,
-            &mut seats,
-            &mut lots,
-            &mut starts,
-            &mut entries,
-            &mut row_starts,
-            &mut row_applicants,
-            &mut row_points,
-        )?;
-        assert_eq!(rt; seats, [0, 1, 3, 9]);
-        assert_eq!(rt; lots, [7, 3, 9]);
-        assert_eq!(rt; starts, [0, 2, 3, 9]);
-        assert_eq!(rt; entries, [0, 1, 1, 9]);
-        assert_eq!(rt; row_starts, [0, 1, 2, 9]);
-        assert_eq!(rt; row_applicants, [0, 1, 9]);
-        assert_eq!(rt; row_points, [5, 9, 9]);
-        let round = Round::over(
-            sizes,
-            &seats,
-            &lots,
-            &starts,
-            &entries,
-            &row_starts,
-            &row_applicants,
-            &row_points,
-        );
+        let mut space = Space {
+            seats: &mut seats,
+            lots: &mut lots,
+            starts: &mut starts,
+            entries: &mut entries,
+            row_starts: &mut row_starts,
+            row_applicants: &mut row_applicants,
+            row_points: &mut row_points,
+        };
+        let sizes = codec::read(&ROUND, &mut space)?;
+        let round = Round::over(sizes, &space);
         assert_eq!(rt; round.applicants(), 2);
         assert_eq!(rt; round.workshops(), 2);
         let mut out = [8u8; 28];
@@ -233,6 +217,13 @@ mod tests {
             codec::write(&round, &mut out[0..26]),
             Err(Refusal::NoRoom(Lent::RoundTables))
         );
+        assert_eq!(rt; seats, [0, 1, 3, 9]);
+        assert_eq!(rt; lots, [7, 3, 9]);
+        assert_eq!(rt; starts, [0, 2, 3, 9]);
+        assert_eq!(rt; entries, [0, 1, 1, 9]);
+        assert_eq!(rt; row_starts, [0, 1, 2, 9]);
+        assert_eq!(rt; row_applicants, [0, 1, 9]);
+        assert_eq!(rt; row_points, [5, 9, 9]);
         Ok(())
     }
 }

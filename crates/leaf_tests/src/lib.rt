@@ -81,6 +81,7 @@ pub(crate) fn rows_found(round: &Round) -> bool {
 #[cfg(test)]
 mod tests {
     use super::*;
+    use codec::Space;
     use layout::{Lot, Points};
     use std::test::Fail;
 
@@ -123,26 +124,17 @@ mod tests {
         let mut row_starts = [0u32; 2];
         let mut row_applicants = [0u16; 4];
         let mut row_points = [0u16; 4];
-        let sizes = codec::read(
-            &ROUND,
-            &mut seats,
-            &mut lots,
-            &mut starts,
-            &mut entries,
-            &mut row_starts,
-            &mut row_applicants,
-            &mut row_points,
-        )?;
-        let round = Round::over(
-            sizes,
-            &seats,
-            &lots,
-            &starts,
-            &entries,
-            &row_starts,
-            &row_applicants,
-            &row_points,
-        );
+        let mut space = Space {
+            seats: &mut seats,
+            lots: &mut lots,
+            starts: &mut starts,
+            entries: &mut entries,
+            row_starts: &mut row_starts,
+            row_applicants: &mut row_applicants,
+            row_points: &mut row_points,
+        };
+        let sizes = codec::read(&ROUND, &mut space)?;
+        let round = Round::over(sizes, &space);
         assert!(rt; all_places(&round, &[3, 1, 0, 2]));
         assert!(rt; answers(&round));
         assert!(rt; rows_found(&round));

@@ -7,7 +7,7 @@ ghost use Rattle.office.specs.Owned.{tables_owned};
 ghost use Rattle.office.specs.Sheets.{Largest, fronts_of};
 
 use crate::owned::OwnedRound;
-use codec::{MOST_APPLICANTS, MOST_ENTRIES, MOST_ROWS, MOST_WORKSHOPS};
+use codec::{MOST_APPLICANTS, MOST_ENTRIES, MOST_ROWS, MOST_WORKSHOPS, Space};
 use layout::Sizes;
 use std::alloc::{AllocError, Global};
 use texts::Fault;
@@ -57,42 +57,30 @@ fn largest(heap: Global) -> Result<Sheets, AllocError>
 }
 
 // Reads the bytes into memory that suffices for every round.
-fn read_into(sheets: Sheets, bytes: &[u8]) -> Result<OwnedRound, Fault>
+fn read_into(mut sheets: Sheets, bytes: &[u8]) -> Result<OwnedRound, Fault>
     requires { Largest sheets }
     ensures { MatchResult result (λ o. decode bytes.now ≡ Ok (tables_owned o)) (Faulty (fault bytes.now)) }
 {
-    let Sheets {
-        mut seats,
-        mut lots,
-        mut starts,
-        mut entries,
-        mut row_starts,
-        mut row_applicants,
-        mut row_points,
-    } = sheets;
-    match codec::read(
-        bytes,
-        &mut seats,
-        &mut lots,
-        &mut starts,
-        &mut entries,
-        &mut row_starts,
-        &mut row_applicants,
-        &mut row_points,
-    ) {
+    // each slice has a name of its own first: lent in the literal itself, a Vec is not known afterwards to hold what was read
+    let seats: &mut [u32] = &mut sheets.seats;
+    let lots: &mut [u16] = &mut sheets.lots;
+    let starts: &mut [u32] = &mut sheets.starts;
+    let entries: &mut [u16] = &mut sheets.entries;
+    let row_starts: &mut [u32] = &mut sheets.row_starts;
+    let row_applicants: &mut [u16] = &mut sheets.row_applicants;
+    let row_points: &mut [u16] = &mut sheets.row_points;
+    let mut space = Space {
+        seats,
+        lots,
+        starts,
+        entries,
+        row_starts,
+        row_applicants,
+        row_points,
+    };
+    match codec::read(bytes, &mut space) {
         Err(e) => Err(Fault::Refused(e)),
-        Ok(sizes) => {
-            let sheets = Sheets {
-                seats,
-                lots,
-                starts,
-                entries,
-                row_starts,
-                row_applicants,
-                row_points,
-            };
-            Ok(cut_to_size(sheets, sizes))
-        }
+        Ok(sizes) => Ok(cut_to_size(sheets, sizes)),
     }
 }
 

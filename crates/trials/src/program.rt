@@ -5,7 +5,7 @@ use crate::cut::Cut;
 use crate::orders::Ended;
 use crate::{bytes, cut};
 use asking::{Desk, Outcome, run};
-use codec::{Round, read};
+use codec::{Round, Space, read};
 use cuts::cut_of;
 use layout::{Lot, Points, Refusal};
 use letters::write_letter;
@@ -144,26 +144,17 @@ fn read_and_answer(case: &Case, bytes: &[u8]) -> Result<Option<Answer>, Refusal>
     let mut row_starts = [0u32; 5];
     let mut row_applicants = [0u16; 20];
     let mut row_points = [0u16; 20];
-    let sizes = read(
-        bytes,
-        &mut seats,
-        &mut lots,
-        &mut starts,
-        &mut entries,
-        &mut row_starts,
-        &mut row_applicants,
-        &mut row_points,
-    )?;
-    let round = Round::over(
-        sizes,
-        &seats,
-        &lots,
-        &starts,
-        &entries,
-        &row_starts,
-        &row_applicants,
-        &row_points,
-    );
+    let mut space = Space {
+        seats: &mut seats,
+        lots: &mut lots,
+        starts: &mut starts,
+        entries: &mut entries,
+        row_starts: &mut row_starts,
+        row_applicants: &mut row_applicants,
+        row_points: &mut row_points,
+    };
+    let sizes = read(bytes, &mut space)?;
+    let round = Round::over(sizes, &space);
     Ok(ask_and_tell(case, &round))
 }
 

@@ -22,6 +22,7 @@ returns-in_err-sizes c =
       written = all_as_written c.args.bytes.now (λ k _. omega (arith, c.type_inv.bytes k));
       ready = tt;
       whole = tt;
+      same_slices = record { seats = record { reference = refl; long = refl }; lots = record { reference = refl; long = refl }; starts = record { reference = refl; long = refl }; entries = record { reference = refl; long = refl }; row_starts = record { reference = refl; long = refl }; row_applicants = record { reference = refl; long = refl }; row_points = record { reference = refl; long = refl } };
     })
 
 pub returns-then-not-has_room : goal.returns-then-not-has_room
@@ -38,6 +39,7 @@ returns-then-not-has_room c =
       written = all_as_written c.args.bytes.now (λ k _. omega (arith, c.type_inv.bytes k));
       ready = tt;
       whole = tt;
+      same_slices = record { seats = record { reference = refl; long = refl }; lots = record { reference = refl; long = refl }; starts = record { reference = refl; long = refl }; entries = record { reference = refl; long = refl }; row_starts = record { reference = refl; long = refl }; row_applicants = record { reference = refl; long = refl }; row_points = record { reference = refl; long = refl } };
     }
 
 pub fill_seats-requires : goal.fill_seats-requires
@@ -104,4 +106,5 @@ returns c =
       written = all_as_written b small;
       ready = ready_read b s ok small _ _ _ _ _ _ _ _ _ _ _ _ _ _ seated drawn started listed sheeted rowed pointed;
       whole = whole_read b s ok small _ _ _ _ _ _ _ _ _ _ _ _ _ _ seated drawn started listed sheeted rowed pointed;
+      same_slices = record { seats = record { reference = refl; long = omega arith }; lots = record { reference = refl; long = omega arith }; starts = record { reference = refl; long = omega arith }; entries = record { reference = refl; long = omega arith }; row_starts = record { reference = refl; long = omega arith }; row_applicants = record { reference = refl; long = omega arith }; row_points = record { reference = refl; long = omega arith } };
     }
