@@ -1,10 +1,10 @@
 -- The list of a record, judged by its place: the same as judged by the applicant.
-use Rattle.std.proofs.Common.{◌≡◌, ℕ, zero, suc, ◌+◌, ◌<◌, ◌≤◌, Bool, true, false, ◌||◌, eqb, List, length, get_or, set, replicate, Some, None, refl, ap, add-one, arith}
+use Rattle.std.proofs.Common.{◌≡◌, ℕ, zero, suc, ◌+◌, ◌<◌, ◌≤◌, Bool, true, false, ◌||◌, eqb, List, length, get_or, set, replicate, Some, None, Err, Result, refl, ap, add-one, arith}
 use mathlib.Core.Path.{fun_ext}
 use Rattle.std.proofs.lemmas.List.{get_or-replicate, get_or-set_same, get_or-set_other}
 use Rattle.std.proofs.lemmas.Bool.{cases_eq}
 use Rattle.std.proofs.lemmas.Bool.Decides.{nat_tests}
-use Rattle.layout.specs.Slices.{or_else}
+use Rattle.layout.specs.Slices.{outcome, or_else}
 use Rattle.layout.specs.Bytes.{byte, word, first_of, record_at, workshops_in, missing, refuse, entry_in, entry_seen, entry_fault, lot_in, lot_seen, record_fault}
 use Rattle.layout.specs.declared.Refusal.{Refusal}
 use Rattle.layout.specs.declared.Refusal.TheVariants.{Short, LotTaken}
@@ -13,9 +13,9 @@ use Rattle.layout.proofs.Firsts.{first_of_at}
 use Rattle.layout.proofs.Offsets.{record_at_more}
 
 -- the count is there and no more than the most, so the first entry at fault is the list's fault
-pub list_refused : (b : List ℕ) (m at j : ℕ) (e : Refusal) → at + 3 ≤ length b → byte b (at + 2) ≤ 20 → j < byte b (at + 2) →
-    first_of (entry_fault_at b m at) j ≡ None → entry_fault_at b m at j ≡ Some e → list_fault_at b m at ≡ Some e
-list_refused b m at j e l k i h g = let s = first_of_at (entry_fault_at b m at) (byte b (at + 2)) j e h g i in grind (arith, nat_tests)
+pub list_refused : (b : List ℕ) (m at j : ℕ) (e : Refusal) → at + 1 ≤ length b → byte b at ≤ 20 → j < byte b at →
+    first_of (entry_fault_at b m at) j ≡ None → entry_fault_at b m at j ≡ Some e → ◌≡◌ {A = Result (Unit {0}) Refusal} (Err e) (outcome (list_fault_at b m at) tt)
+list_refused b m at j e l k i h g = let s = first_of_at (entry_fault_at b m at) (byte b at) j e h g i in grind (arith, nat_tests)
 
 module _ (b : List ℕ) (a : ℕ) where
   entry_seen_is : (w j : ℕ) → entry_seen b a w j ≡ stands_in b (record_at b a + 3) w j
@@ -23,27 +23,30 @@ module _ (b : List ℕ) (a : ℕ) where
   entry_seen_is w zero = refl
   entry_seen_is w (suc j) = ap (λ t. eqb (entry_in b a j) w || t) (entry_seen_is w j)
 
-  entry_fault_is : entry_fault b a ≡ entry_fault_at b (workshops_in b) (record_at b a)
-  entry_fault_is =
-      fun_ext λ j. rw entry_seen_is
+  three : (x : ℕ) → x + 2 + 1 ≡ x + 3
+  three x = omega arith
+
+  entry_fault_is : entry_fault b a ≡ entry_fault_at b (workshops_in b) (record_at b a + 2)
+  entry_fault_is = fun_ext λ j. rw (entry_seen_is, three) refl
 
   -- a's record by its place
   pub record_fault_is : record_fault b a ≡
       or_else (missing b (record_at b a) 2)
-      (or_else (refuse (lot_seen b (word b (record_at b a)) a) (LotTaken (record_at b a))) (list_fault_at b (workshops_in b) (record_at b a)))
+      (or_else (refuse (lot_seen b (word b (record_at b a)) a) (LotTaken (record_at b a))) (list_fault_at b (workshops_in b) (record_at b a + 2)))
   record_fault_is = rw entry_fault_is
 
   -- what judges the record, where its lot is missing and where it is there
-  module _ (at : ℕ) (place : at ≡ record_at b a) where
-    pub record_short : length b < at + 2 → record_fault b a ≡ Some (Short (length b))
-    record_short l = rw (record_fault_is, ← place) grind (arith, nat_tests)
+  pub record_short : length b < record_at b a + 2 → record_fault b a ≡ Some (Short (length b))
+  record_short l = rw record_fault_is grind (arith, nat_tests)
 
-    pub record_by_place : (m : ℕ) (taken : Bool) → m ≡ workshops_in b → at + 2 ≤ length b → taken ≡ lot_seen b (word b at) a →
-        record_fault b a ≡ record_fault_at b m taken at
-    record_by_place m taken e l t = rw (record_fault_is, ← place, e, t) (grind (arith, nat_tests))
+  -- by an array of flags that says which lots the applicants before a have
+  pub record_by_flags : (m lot : ℕ) (seen : List Bool) → m ≡ workshops_in b → record_at b a + 2 ≤ length b → lot ≡ lot_in b a → lot < 65536 →
+      ((v : ℕ) → v < 65536 → get_or seen v false ≡ lot_seen b v a) → record_fault b a ≡ record_fault_at b m (get_or seen lot false) (record_at b a)
+  record_by_flags m lot seen em l e k h = rw (record_fault_is, em, h lot k, e) (grind (arith, nat_tests))
 
-    pub record_after : record_at b (a + 1) ≡ at + 3 + byte b (at + 2)
-    record_after = rw place (record_at_more b a)
+  -- where the next record begins
+  pub record_after : (at : ℕ) → at ≡ record_at b a → record_at b (a + 1) ≡ at + 3 + byte b (at + 2)
+  record_after at place = rw place (record_at_more b a)
 
 -- an array of n flags that says f, and one flag more raised
 flag_more : (n x : ℕ) (seen : List Bool) (f : ℕ → Bool) → length seen ≡ n → x < n → ((v : ℕ) → v < n → get_or seen v false ≡ f v) →
@@ -54,11 +57,7 @@ flag_more n x seen f m l h v k =
     let o = get_or-set_other seen x v true false in
     let s = cases_eq v x in grind (arith, nat_tests)
 
--- the array of the lots seen: what it says of the lot at a place, before any applicant, and after one more
-pub lot_seen_is : (b : List ℕ) (a at lot : ℕ) (seen : List Bool) → lot ≡ word b at → lot < 65536 →
-    ((v : ℕ) → v < 65536 → get_or seen v false ≡ lot_seen b v a) → get_or seen lot false ≡ lot_seen b (word b at) a
-lot_seen_is b a at lot seen e l h = rw (← e) (h lot l)
-
+-- the array of the lots seen: what it says before any applicant, and after one more
 pub seen_none : (b : List ℕ) (v : ℕ) → v < 65536 → get_or (replicate 65536 false) v false ≡ lot_seen b v 0
 unfolding lot_seen
 seen_none b v l = get_or-replicate 65536 v false false l

@@ -21,9 +21,9 @@ module _ (b : List ℕ) where
   out_of_order_is (suc i) = let e = add-one (row_applicant_in b i) in rw e
 
   -- row i by its place, with any names for the numbers that judge it
-  pub row_fault_is : (i n m w a at : ℕ) → n ≡ applicants_in b → m ≡ workshops_in b → w ≡ least_workshop b i → a ≡ least_applicant b i → at ≡ row_at b i →
-      row_fault b i ≡ row_fault_at b n m w a at
-  row_fault_is i n m w a at en em ew ea eat = rw (out_of_order_is, en, em, ew, ea, eat)
+  pub row_fault_is : (i n m w a : ℕ) → n ≡ applicants_in b → m ≡ workshops_in b → w ≡ least_workshop b i → a ≡ least_applicant b i →
+      row_fault b i ≡ row_fault_at b n m w a (row_at b i)
+  row_fault_is i n m w a en em ew ea = rw (out_of_order_is, en, em, ew, ea)
 
   pub least_workshop_none : least_workshop b 0 ≡ 0
   unfolding least_workshop

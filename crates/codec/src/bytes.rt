@@ -1,17 +1,58 @@
-// The smallest readers: a byte, and a number of two bytes with the low one first. Each hands on the number, or nothing where the bytes
-// end before it.
-ghost use Rattle.std.specs.Prelude.{◌≡◌, ◌+◌, ◌≤◌, length};
+// The reading of the bytes of a round from the front: each reader hands on the number that stands next and moves behind it, or hands on
+// nothing where the bytes end before it.
+ghost use Rattle.std.specs.Prelude.{◌≡◌, ◌+◌, ◌≤◌, length, option_copied, slice_range, OnSome};
 ghost use Rattle.layout.specs.Bytes.{byte, word};
-ghost use Rattle.codec.specs.Readers.{there};
 
-// The byte at `at`.
-pub(crate) fn byte_at(bytes: &[u8], at: usize) -> Option<u8>
-    ensures { result ≡ there bytes.now at 1 (byte bytes.now at) }
-{
-    if at >= bytes.len() {
-        return None;
+// The bytes, and where the next number stands: never past their end.
+#[derive(Drop)]
+pub(crate) struct Reader<'a> {
+    pub(crate) bytes: &'a [u8],
+    pub(crate) at: usize,
+    ghost within: { at ≤ length bytes.now },
+}
+
+impl<'a> Reader<'a> {
+    ghost use Rattle.codec.specs.Readers.{Stands, there};
+
+    // At the first byte.
+    pub(crate) fn new(bytes: &'a [u8]) -> Reader<'a>
+        ensures { Stands result bytes.now 0 }
+    {
+        Reader { bytes, at: 0 }
     }
-    Some(bytes[at])
+
+    // The next N bytes.
+    fn take<const N: usize>(&mut self) -> Option<&'a [u8; N]>
+        ensures answer { option_copied result ≡ there self.old.bytes.now self.old.at N (slice_range self.old.bytes.now self.old.at (self.old.at + N)) }
+        ensures moved { OnSome result (self.new.at ≡ self.old.at + N) }
+        ensures same { self.new.bytes.now ≡ self.old.bytes.now }
+    {
+        let next = self.bytes[self.at..].first_chunk::<N>();
+        if next.is_some() {
+            self.at += N;
+        }
+        next
+    }
+
+    // The next byte.
+    pub(crate) fn byte(&mut self) -> Option<u8>
+        ensures answer { result ≡ there self.old.bytes.now self.old.at 1 (byte self.old.bytes.now self.old.at) }
+        ensures moved { OnSome result (self.new.at ≡ self.old.at + 1) }
+        ensures same { self.new.bytes.now ≡ self.old.bytes.now }
+    {
+        let [byte] = *self.take::<1>()?;
+        Some(byte)
+    }
+
+    // The next number of two bytes, the low one first.
+    pub(crate) fn word(&mut self) -> Option<u16>
+        ensures answer { result ≡ there self.old.bytes.now self.old.at 2 (word self.old.bytes.now self.old.at) }
+        ensures moved { OnSome result (self.new.at ≡ self.old.at + 2) }
+        ensures same { self.new.bytes.now ≡ self.old.bytes.now }
+    {
+        let pair = self.take::<2>()?;
+        Some(u16::from_le_bytes(*pair))
+    }
 }
 
 // The number of two bytes at `at`, which are there.
@@ -19,15 +60,5 @@ pub(crate) fn word_in(bytes: &[u8], at: usize) -> u16
     requires { at + 2 ≤ length bytes.now }
     ensures { result ≡ word bytes.now at }
 {
-    bytes[at] as u16 + 256 * bytes[at + 1] as u16
-}
-
-// The number of two bytes at `at`.
-pub(crate) fn word_at(bytes: &[u8], at: usize) -> Option<u16>
-    ensures { result ≡ there bytes.now at 2 (word bytes.now at) }
-{
-    if at >= bytes.len() || bytes.len() - at < 2 {
-        return None;
-    }
-    Some(word_in(bytes, at))
+    u16::from_le_bytes([bytes[at], bytes[at + 1]])
 }

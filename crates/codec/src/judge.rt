@@ -1,11 +1,11 @@
 // The judging of the bytes of a round: the parts of the format in the order in which they stand, and in each the first fault. Nothing
 // is written.
-ghost use Rattle.std.specs.Prelude.{◌≡◌, ℕ, ◌+◌, ◌<◌, ◌≤◌, length, IfOk, Some, OnOk};
+ghost use Rattle.std.specs.Prelude.{◌≡◌, ℕ, ◌+◌, ◌*◌, length, false, slice_index_or, slice_set, OnOk};
 ghost use Rattle.layout.specs.Slices.{outcome};
 ghost use Rattle.layout.specs.Bytes.{byte, word, first_of, head_fault, places_from, places_fault, applicants_in, workshops_in, record_at, record_fault, row_at, row_fault, fault, sizes_in};
-ghost use Rattle.codec.specs.Readers.{list_fault_at, record_fault_at, count_fault_at, row_fault_at};
+ghost use Rattle.codec.specs.Readers.{Stands, list_fault_at, record_fault_at, count_fault_at, row_fault_at};
 
-use crate::bytes::{byte_at, word_at, word_in};
+use crate::bytes::Reader;
 use crate::limits::{
     MOST_APPLICANTS, MOST_ENTRIES, MOST_PLACES, MOST_ROWS, MOST_WORKSHOPS, PLACES_FROM,
 };
@@ -26,21 +26,22 @@ struct Mark {
 }
 
 // The numbers of applicants and of workshops.
-fn judge_head(bytes: &[u8]) -> Result<Head, Refusal>
-    ensures answer { result ≡ outcome (head_fault bytes.now) (record { applicants = applicants_in bytes.now; workshops = workshops_in bytes.now }) }
-    ensures within { OnOk result (places_from ≤ length bytes.now) }
+fn judge_head(reader: &mut Reader) -> Result<Head, Refusal>
+    requires { reader.old.at ≡ 0 }
+    ensures answer { result ≡ outcome (head_fault reader.old.bytes.now) (record { applicants = applicants_in reader.old.bytes.now; workshops = workshops_in reader.old.bytes.now }) }
+    ensures moved { OnOk result (Stands reader.new reader.old.bytes.now places_from) }
 {
-    let Some(applicants) = word_at(bytes, 0) else {
-        return Err(Refusal::Short(bytes.len()));
+    let Some(applicants) = reader.word() else {
+        return Err(Refusal::Short(reader.bytes.len()));
     };
-    let applicants = applicants as usize;
+    let applicants = usize::from(applicants);
     if applicants > MOST_APPLICANTS {
         return Err(Refusal::BadSize(0));
     }
-    let Some(workshops) = word_at(bytes, 2) else {
-        return Err(Refusal::Short(bytes.len()));
+    let Some(workshops) = reader.word() else {
+        return Err(Refusal::Short(reader.bytes.len()));
     };
-    let workshops = workshops as usize;
+    let workshops = usize::from(workshops);
     if workshops == 0 || workshops > MOST_WORKSHOPS {
         return Err(Refusal::BadSize(2));
     }
@@ -50,123 +51,113 @@ fn judge_head(bytes: &[u8]) -> Result<Head, Refusal>
     })
 }
 
-// The places of the workshops, a byte each. What stands behind them begins at the answer.
-fn judge_places(bytes: &[u8], workshops: usize) -> Result<usize, Refusal>
-    requires { places_from ≤ length bytes.now }
-    ensures answer { result ≡ outcome (first_of (places_fault bytes.now) workshops) (places_from + workshops) }
-    ensures within { IfOk result (λ q. q ≤ length bytes.now) }
+// The places of the workshops, a byte each.
+fn judge_places(reader: &mut Reader, workshops: usize) -> Result<(), Refusal>
+    requires { reader.old.at ≡ places_from }
+    ensures answer { result ≡ outcome (first_of (places_fault reader.old.bytes.now) workshops) tt }
+    ensures moved { OnOk result (Stands reader.new reader.old.bytes.now (places_from + workshops)) }
 {
-    for w in 0..workshops {
-        let Some(places) = byte_at(bytes, PLACES_FROM + w) else {
-            return Err(Refusal::Short(bytes.len()));
+    for _w in 0..workshops {
+        let at = reader.at;
+        let Some(places) = reader.byte() else {
+            return Err(Refusal::Short(reader.bytes.len()));
         };
         if places > MOST_PLACES {
-            return Err(Refusal::BadSize(PLACES_FROM + w));
+            return Err(Refusal::BadSize(at));
         }
     }
-    Ok(PLACES_FROM + workshops)
+    Ok(())
 }
 
-// The count and the list of the record at `at`, whose lot is there. What stands behind the record begins at the answer. A flag for each
-// byte says whether it stands in the list so far, so that each entry is read once.
-fn judge_list(bytes: &[u8], at: usize, workshops: usize) -> Result<usize, Refusal>
-    requires { at + 2 ≤ length bytes.now }
-    ensures answer { result ≡ outcome (list_fault_at bytes.now workshops at) (at + 3 + byte bytes.now (at + 2)) }
-    ensures within { IfOk result (λ q. q ≤ length bytes.now) }
+// The count and the list of a record. A flag for each byte says whether it stands in the list so far, so that each entry is read once.
+fn judge_list(reader: &mut Reader, workshops: usize) -> Result<(), Refusal>
+    ensures answer { result ≡ outcome (list_fault_at reader.old.bytes.now workshops reader.old.at) tt }
+    ensures moved { OnOk result (Stands reader.new reader.old.bytes.now (reader.old.at + 1 + byte reader.old.bytes.now reader.old.at)) }
 {
-    let Some(count) = byte_at(bytes, at + 2) else {
-        return Err(Refusal::Short(bytes.len()));
+    let at = reader.at;
+    let Some(count) = reader.byte() else {
+        return Err(Refusal::Short(reader.bytes.len()));
     };
     if count > MOST_ENTRIES {
-        return Err(Refusal::LongList(at + 2));
+        return Err(Refusal::LongList(at));
     }
     let mut seen = [false; 256];
-    for j in 0..count as usize {
-        let Some(entry) = byte_at(bytes, at + 3 + j) else {
-            return Err(Refusal::Short(bytes.len()));
+    for _j in 0..count {
+        let at = reader.at;
+        let Some(entry) = reader.byte() else {
+            return Err(Refusal::Short(reader.bytes.len()));
         };
-        let entry = entry as usize;
+        let entry = usize::from(entry);
         if entry >= workshops || seen[entry] {
-            return Err(Refusal::BadEntry(at + 3 + j));
+            return Err(Refusal::BadEntry(at));
         }
         seen[entry] = true;
     }
-    Ok(at + 3 + count as usize)
+    Ok(())
 }
 
-// The record at `at`, whose lot is there and may be taken: the lot comes before the list.
-fn judge_record(bytes: &[u8], at: usize, taken: bool, workshops: usize) -> Result<usize, Refusal>
-    requires { at + 2 ≤ length bytes.now }
-    ensures answer { result ≡ outcome (record_fault_at bytes.now workshops taken at) (at + 3 + byte bytes.now (at + 2)) }
-    ensures within { IfOk result (λ q. q ≤ length bytes.now) }
-{
-    if taken {
-        return Err(Refusal::LotTaken(at));
-    }
-    judge_list(bytes, at, workshops)
-}
-
-// The records of the applicants, which begin at `from`. What stands behind them begins at the answer.
-fn judge_records(
-    bytes: &[u8],
-    from: usize,
-    applicants: usize,
-    workshops: usize,
-) -> Result<usize, Refusal>
-    requires place { from ≡ record_at bytes.now 0 }
-    requires size { workshops ≡ workshops_in bytes.now }
-    requires within { from ≤ length bytes.now }
-    ensures answer { result ≡ outcome (first_of (record_fault bytes.now) applicants) (record_at bytes.now applicants) }
-    ensures within { IfOk result (λ q. q ≤ length bytes.now) }
+// The records of the applicants: the lot of each comes before its list. A flag for each lot says whether an applicant has it.
+fn judge_records(reader: &mut Reader, head: Head) -> Result<(), Refusal>
+    requires place { reader.old.at ≡ record_at reader.old.bytes.now 0 }
+    requires size { head.workshops ≡ workshops_in reader.old.bytes.now }
+    ensures answer { result ≡ outcome (first_of (record_fault reader.old.bytes.now) head.applicants) tt }
+    ensures moved { OnOk result (Stands reader.new reader.old.bytes.now (record_at reader.old.bytes.now head.applicants)) }
 {
     let mut seen = [false; 65536];
-    let mut at = from;
-    for _a in 0..applicants {
-        let Some(lot) = word_at(bytes, at) else {
-            return Err(Refusal::Short(bytes.len()));
+    for _a in 0..head.applicants {
+        let at = reader.at;
+        let Some(lot) = reader.word() else {
+            return Err(Refusal::Short(reader.bytes.len()));
         };
-        let lot = lot as usize;
-        at = match judge_record(bytes, at, seen[lot], workshops) {
-            Ok(next) => next,
-            Err(e) => return Err(e),
-        };
+        let lot = usize::from(lot);
+        if seen[lot] {
+            return Err(Refusal::LotTaken(at));
+        }
         seen[lot] = true;
+        judge_list(reader, head.workshops)?;
     }
-    Ok(at)
+    Ok(())
 }
 
-// The number of rows, at `at`.
-fn judge_row_count(bytes: &[u8], at: usize) -> Result<usize, Refusal>
-    ensures answer { result ≡ outcome (count_fault_at bytes.now at) (word bytes.now at) }
-    ensures within { OnOk result (at + 2 ≤ length bytes.now) }
+// The number of rows.
+fn judge_row_count(reader: &mut Reader) -> Result<usize, Refusal>
+    ensures answer { result ≡ outcome (count_fault_at reader.old.bytes.now reader.old.at) (word reader.old.bytes.now reader.old.at) }
+    ensures moved { OnOk result (Stands reader.new reader.old.bytes.now (reader.old.at + 2)) }
 {
-    let Some(rows) = word_at(bytes, at) else {
-        return Err(Refusal::Short(bytes.len()));
+    let at = reader.at;
+    let Some(rows) = reader.word() else {
+        return Err(Refusal::Short(reader.bytes.len()));
     };
-    let rows = rows as usize;
+    let rows = usize::from(rows);
     if rows > MOST_ROWS {
         return Err(Refusal::ManyRows(at));
     }
     Ok(rows)
 }
 
-// The row at `at`, whose five bytes are there, and which may not come before `least`. The next row may not come before the answer.
-fn judge_whole_row(
-    bytes: &[u8],
-    at: usize,
-    applicants: usize,
-    workshops: usize,
-    least: Mark,
-) -> Result<Mark, Refusal>
-    requires { at + 5 ≤ length bytes.now }
-    ensures { result ≡ outcome (row_fault_at bytes.now applicants workshops least.workshop least.applicant at) (record { workshop = byte bytes.now at; applicant = word bytes.now (at + 1) + 1 }) }
+// A row, which may not come before `least`. The next row may not come before the answer.
+fn judge_row(reader: &mut Reader, head: Head, least: Mark) -> Result<Mark, Refusal>
+    ensures answer { result ≡ outcome (row_fault_at reader.old.bytes.now head.applicants head.workshops least.workshop least.applicant reader.old.at) (record { workshop = byte reader.old.bytes.now reader.old.at; applicant = word reader.old.bytes.now (reader.old.at + 1) + 1 }) }
+    ensures moved { OnOk result (Stands reader.new reader.old.bytes.now (reader.old.at + 5)) }
 {
-    let workshop = bytes[at] as usize;
-    let applicant = word_in(bytes, at + 1) as usize;
-    let points = word_in(bytes, at + 3);
-    if workshop >= workshops || applicant >= applicants {
+    let at = reader.at;
+    let Some(workshop) = reader.byte() else {
+        return Err(Refusal::Short(reader.bytes.len()));
+    };
+    let workshop = usize::from(workshop);
+    if workshop >= head.workshops {
         return Err(Refusal::BadRow(at));
     }
+    let Some(applicant) = reader.word() else {
+        return Err(Refusal::Short(reader.bytes.len()));
+    };
+    let applicant = usize::from(applicant);
+    if applicant >= head.applicants {
+        return Err(Refusal::BadRow(at));
+    }
+    let Some(points) = reader.word() else {
+        return Err(Refusal::Short(reader.bytes.len()));
+    };
     if points == 0 {
         return Err(Refusal::BadRow(at));
     }
@@ -179,92 +170,43 @@ fn judge_whole_row(
     })
 }
 
-// The row at `at`, of which bytes are missing: a fault in a number that is there comes before that.
-fn judge_cut_row(bytes: &[u8], at: usize, applicants: usize, workshops: usize) -> Refusal
-    requires cut { length bytes.now < at + 5 }
-    ensures { (w a : ℕ) → row_fault_at bytes.now applicants workshops w a at ≡ Some result }
-{
-    let Some(workshop) = byte_at(bytes, at) else {
-        return Refusal::Short(bytes.len());
-    };
-    if workshop as usize >= workshops {
-        return Refusal::BadRow(at);
-    }
-    let Some(applicant) = word_at(bytes, at + 1) else {
-        return Refusal::Short(bytes.len());
-    };
-    if applicant as usize >= applicants {
-        return Refusal::BadRow(at);
-    }
-    Refusal::Short(bytes.len())
-}
-
-// The row at `at`, which may not come before `least`. The next row may not come before the answer.
-fn judge_row(
-    bytes: &[u8],
-    at: usize,
-    applicants: usize,
-    workshops: usize,
-    least: Mark,
-) -> Result<Mark, Refusal>
-    ensures answer { result ≡ outcome (row_fault_at bytes.now applicants workshops least.workshop least.applicant at) (record { workshop = byte bytes.now at; applicant = word bytes.now (at + 1) + 1 }) }
-    ensures within { OnOk result (at + 5 ≤ length bytes.now) }
-{
-    if at < bytes.len() && bytes.len() - at >= 5 {
-        return judge_whole_row(bytes, at, applicants, workshops, least);
-    }
-    Err(judge_cut_row(bytes, at, applicants, workshops))
-}
-
-// The rows of the point sheets, which begin at `from`. What stands behind them begins at the answer.
-fn judge_rows(
-    bytes: &[u8],
-    from: usize,
-    rows: usize,
-    applicants: usize,
-    workshops: usize,
-) -> Result<usize, Refusal>
-    requires place { from ≡ row_at bytes.now 0 }
-    requires many { applicants ≡ applicants_in bytes.now }
-    requires size { workshops ≡ workshops_in bytes.now }
-    requires within { from ≤ length bytes.now }
-    ensures answer { result ≡ outcome (first_of (row_fault bytes.now) rows) (row_at bytes.now rows) }
-    ensures within { IfOk result (λ q. q ≤ length bytes.now) }
+// The rows of the point sheets.
+fn judge_rows(reader: &mut Reader, head: Head, rows: usize) -> Result<(), Refusal>
+    requires place { reader.old.at ≡ row_at reader.old.bytes.now 0 }
+    requires many { head.applicants ≡ applicants_in reader.old.bytes.now }
+    requires size { head.workshops ≡ workshops_in reader.old.bytes.now }
+    ensures answer { result ≡ outcome (first_of (row_fault reader.old.bytes.now) rows) tt }
+    ensures moved { OnOk result (Stands reader.new reader.old.bytes.now (row_at reader.old.bytes.now rows)) }
 {
     let mut least = Mark {
         workshop: 0,
         applicant: 0,
     };
-    let mut at = from;
     for _i in 0..rows {
-        least = match judge_row(bytes, at, applicants, workshops, least) {
-            Ok(next) => next,
-            Err(e) => return Err(e),
-        };
-        at += 5;
+        least = judge_row(reader, head, least)?;
     }
-    Ok(at)
+    Ok(())
 }
 
 // The sizes of the round that the bytes are, or the first fault. Nothing is written.
 pub fn check(bytes: &[u8]) -> Result<Sizes, Refusal>
     ensures { result ≡ outcome (fault bytes.now) (sizes_in bytes.now) }
 {
-    let Head {
-        applicants,
-        workshops,
-    } = judge_head(bytes)?;
-    let records_from = judge_places(bytes, workshops)?;
-    let rows_from = judge_records(bytes, records_from, applicants, workshops)?;
-    let rows = judge_row_count(bytes, rows_from)?;
-    let end = judge_rows(bytes, rows_from + 2, rows, applicants, workshops)?;
-    if end < bytes.len() {
-        return Err(Refusal::Trailing(end));
+    let mut reader = Reader::new(bytes);
+    let head = judge_head(&mut reader)?;
+    judge_places(&mut reader, head.workshops)?;
+    let records_from = reader.at;
+    judge_records(&mut reader, head)?;
+    let rows_from = reader.at;
+    let rows = judge_row_count(&mut reader)?;
+    judge_rows(&mut reader, head, rows)?;
+    if reader.at < bytes.len() {
+        return Err(Refusal::Trailing(reader.at));
     }
-    let entries = rows_from - records_from - 3 * applicants;
+    let entries = rows_from - records_from - 3 * head.applicants;
     Ok(Sizes {
-        applicants,
-        workshops,
+        applicants: head.applicants,
+        workshops: head.workshops,
         entries,
         rows,
     })

@@ -9,7 +9,7 @@ use layout::Sizes;
 fn byte_or_zero(bytes: &[u8], at: usize) -> u8
     ensures { result ≡ byte bytes.now at }
 {
-    if at < bytes.len() { bytes[at] } else { 0 }
+    bytes.get(at).copied().unwrap_or(0)
 }
 
 // The number of two bytes at `at`, of which 0 stands for what is past the end.
@@ -17,7 +17,7 @@ fn word_or_zero(bytes: &[u8], at: usize) -> u16
     requires { at < 2 ^ 32 }
     ensures { result ≡ word bytes.now at }
 {
-    byte_or_zero(bytes, at) as u16 + 256 * byte_or_zero(bytes, at + 1) as u16
+    u16::from_le_bytes([byte_or_zero(bytes, at), byte_or_zero(bytes, at + 1)])
 }
 
 // The sizes of the round that the bytes are, if they are one. Nothing is judged: other bytes name sizes too, and what is past their
@@ -25,17 +25,17 @@ fn word_or_zero(bytes: &[u8], at: usize) -> u16
 pub fn measure(bytes: &[u8]) -> Sizes
     ensures { result ≡ sizes_in bytes.now }
 {
-    let applicants = word_or_zero(bytes, 0) as usize;
-    let workshops = word_or_zero(bytes, 2) as usize;
+    let applicants = usize::from(word_or_zero(bytes, 0));
+    let workshops = usize::from(word_or_zero(bytes, 2));
     let records_from = PLACES_FROM + workshops;
     let mut at = records_from;
     for _a in 0..applicants {
-        at += 3 + byte_or_zero(bytes, at + 2) as usize;
+        at += 3 + usize::from(byte_or_zero(bytes, at + 2));
     }
     Sizes {
         applicants,
         workshops,
         entries: at - records_from - 3 * applicants,
-        rows: word_or_zero(bytes, at) as usize,
+        rows: usize::from(word_or_zero(bytes, at)),
     }
 }

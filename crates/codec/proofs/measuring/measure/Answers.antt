@@ -27,14 +27,14 @@ overflow_sub-result c = omega (arith, c.loop-a.invariant.0, record_at_is c.args.
 pub overflow_sub-result-2 : goal.overflow_sub-result-2
 overflow_sub-result-2 c = omega (arith, c.loop-a.invariant.0, record_at_is c.args.bytes.now c.loop-a._a)
 
-pub word_or_zero-requires : goal.word_or_zero-requires
-word_or_zero-requires c = omega (arith, c.loop-a.invariant.1)
+pub word_or_zero-requires-3 : goal.word_or_zero-requires-3
+word_or_zero-requires-3 c = omega (arith, c.loop-a.invariant.1)
 
 pub returns : goal.returns
 returns c =
     let b = c.args.bytes.now in
-    let n = c.word_or_zero-applicants.ensures in
-    let m = c.word_or_zero-workshops.ensures in
+    let n = c.from-applicants.ensures ∙ c.word_or_zero.ensures in
+    let m = c.from-workshops.ensures ∙ c.word_or_zero-2.ensures in
     let all : c.loop-a._a ≡ applicants_in b = omega arith in
     let found : c.loop-a.at ≡ record_at b (applicants_in b) = c.loop-a.invariant.0 ∙ ap (λ (a : ℕ). record_at b a) all in
-    same_sizes n m (omega (arith, n, m, found, record_at_is b (applicants_in b))) (c.word_or_zero.ensures ∙ ap (λ (x : ℕ). word b x) found)
+    same_sizes n m (omega (arith, n, m, found, record_at_is b (applicants_in b))) (c.from-2.ensures ∙ c.word_or_zero-3.ensures ∙ ap (λ (x : ℕ). word b x) found)
