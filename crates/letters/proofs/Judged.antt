@@ -11,7 +11,7 @@ use Rattle.layout.proofs.Flats.{length_table, getD_table}
 use Rattle.layout.proofs.Firsts.{or_else_past, or_else_none}
 use Rattle.cuts.proofs.Firsts.{first_that_same}
 use Rattle.cuts.specs.Cuts.{first_that, position}
-use Rattle.letters.specs.Letter.{Letter, WellFormed, encode_letter, count_in, place_at, part_at, entry_in, letter_in}
+use Rattle.letters.specs.Letter.{Letter, WellFormed, encode_letter, count_in, place_at, place_told, part_at, entry_in, letter_in}
 use Rattle.letters.specs.Faults.{letter_fault, place_fault, verdict_in, first_in, reached_in}
 use Rattle.letters.specs.Exact.{reached_with, reached_list, first_place, judgement, judged_bytes, Exact}
 use Rattle.letters.specs.declared.entry.Entry.{Entry}
@@ -47,7 +47,7 @@ judged_letter_in b none =
     ∙ by_place (eqb place (first_in b)) (first_in b) (verdict_in b)
     ∙ ap (λ (first : ℕ). cond (eqb place first) (Ok (verdict_in b)) (Err (NotFirst first))) (first_in_is b)
     ∙ ap (λ (n : ℕ). cond (eqb place (first_place (letter_in b)))
-    (Ok (record { applicant = word b 0; lot = record { 0 = word b 2 }; entries = n; place = place }))
+    (Ok (record { applicant = word b 0; lot = record { 0 = word b 2 }; entries = n; place = place_told place }))
     (Err (NotFirst (first_place (letter_in b))))) (sym count)
 
 -- so the bytes of a well-formed letter are judged by its place

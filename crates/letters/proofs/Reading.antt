@@ -1,16 +1,20 @@
 -- Steps of reading a letter: what a part's reader says of the letter, and one entry more.
-use Rattle.std.proofs.Common.{◌≡◌, ℕ, ◌+◌, ◌-◌, ◌<◌, Bool, true, false, cond, ◌&&◌, eqb, List, length, get_or, take, drop, set, Some, None, Ok, Err, Option, Result, refl, inl, inr, add-one, arith}
+use Rattle.std.proofs.Common.{◌≡◌, ℕ, ◌+◌, ◌-◌, ◌<◌, ◌≤◌, Bool, true, false, cond, not, eqb, List, length, get_or, take, drop, set, Some, None, Ok, Err, Option, Result, unwrap_or, refl, inl, inr, add-one, arith}
+use Rattle.std.specs.Option.{option_eq, option_or}
+use Rattle.std.specs.Bool.{then_some}
 use Rattle.std.proofs.lemmas.List.{take_rest, get_or-set_same, get_or-set_other}
 use Rattle.std.proofs.lemmas.Bool.{cases_eq}
 use Rattle.std.proofs.lemmas.Bool.Decides.{nat_tests}
 use Rattle.layout.specs.Slices.{outcome, or_else}
-use Rattle.layout.specs.Bytes.{byte}
+use Rattle.layout.specs.Bytes.{byte, refuse}
+use Rattle.layout.specs.Tables.{most_entries}
 use Rattle.layout.specs.declared.Refusal.{Refusal}
-use Rattle.letters.specs.Letter.{entry_at, entry_in}
-use Rattle.letters.specs.Faults.{entry_fault, workshop_seen}
+use Rattle.layout.specs.declared.Refusal.TheVariants.{NotFirst}
+use Rattle.letters.specs.Letter.{count_in, place_at, place_told, entry_at, entry_in}
+use Rattle.letters.specs.Faults.{entry_fault, workshop_seen, reached_in, first_in, place_fault}
 use Rattle.letters.specs.declared.entry.Entry.{Entry}
 use Rattle.cuts.proofs.Firsts.{first_that_below}
-use Rattle.cuts.specs.Cuts.{first_that, position, first_reached}
+use Rattle.cuts.specs.Cuts.{first_that, position}
 
 -- what an outcome says of the fault
 pub none_from_ok : {T E : Type 0} (f : Option E) (v w : T) → Ok w ≡ outcome f v → (f ≡ None) × (w ≡ v)
@@ -62,14 +66,35 @@ module _ (b : List ℕ) (at : ℕ) where
   fault_from_err k h = some_from_err (entry_fault (drop at b)) (entry_in (drop at b)) k (rw take_rest at h)
 
 -- one position more
-pub first_reached_more : (f : ℕ → Bool) (j : ℕ) → j < 255 → first_reached f (j + 1) ≡ cond (eqb (first_reached f j) 255 && f j) j (first_reached f j)
+pub first_that_more : (f : ℕ → Bool) (j : ℕ) → first_that f (j + 1) ≡ option_or (first_that f j) (then_some (f j) j)
 unfolding first_that
-first_reached_more f j h = rw (add-one j) (step (first_that f j) (f j) (first_that_below f j))
+first_that_more f j = rw (add-one j) (step (first_that f j) (f j))
   where
-    step : (o : Option ℕ) (b : Bool) → ((i : ℕ) → o ≡ Some i → i < j) → position (or_else o (cond b (Some j) None)) ≡ cond (eqb (position o) 255 && b) j (position o)
-    step None true below = refl
-    step None false below = refl
-    step (Some i) b below = let l = below i refl in grind (arith, nat_tests)
+    step : (o : Option ℕ) (b : Bool) → or_else o (cond b (Some j) None) ≡ option_or o (then_some b j)
+    step None true = refl
+    step None false = refl
+    step (Some i) b = refl
+
+-- a place is the first that is reached as a number exactly if it is as a position: 255 is no position
+position_of_first : (o : Option ℕ) → unwrap_or o 255 ≡ position o
+position_of_first None = refl
+position_of_first (Some i) = refl
+
+same_place : (p : ℕ) (o : Option ℕ) → ((i : ℕ) → o ≡ Some i → i < 255) → option_eq eqb (place_told p) o ≡ eqb p (position o)
+same_place p None below = elim (eqb p 255) as (λ t. option_eq eqb (cond t None (Some p)) None ≡ t) [ true ↦ refl | false ↦ refl ]
+same_place p (Some i) below = let l = below i refl in grind (arith, nat_tests)
+
+pub place_fault_is : (b : List ℕ) → count_in b ≤ most_entries → (place first : Option ℕ) (other : Bool) (n : ℕ) →
+    place ≡ place_told (byte b (place_at b)) → first ≡ first_that (reached_in b) (count_in b) → other ≡ not (option_eq eqb place first) → n ≡ unwrap_or first 255 →
+    place_fault b ≡ refuse other (NotFirst n)
+unfolding first_in
+place_fault_is b few place first other n p f t m =
+    let below : (i : ℕ) → first_that (reached_in b) (count_in b) ≡ Some i → i < 255 =
+    λ i e. let l = first_that_below (reached_in b) (count_in b) i e in omega arith
+    in
+    let same = same_place (byte b (place_at b)) (first_that (reached_in b) (count_in b)) below in
+    let told = position_of_first (first_that (reached_in b) (count_in b)) in
+    cc
 
 -- one workshop more is marked
 pub seen_more : (b : List ℕ) (seen : List Bool) (j w : ℕ) → length seen ≡ 256 → w ≡ byte b (entry_at j) → w < 256 →

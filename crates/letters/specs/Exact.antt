@@ -5,7 +5,7 @@ use Rattle.layout.specs.Slices.{outcome, or_else}
 use Rattle.layout.specs.declared.Refusal.{Refusal}
 use Rattle.layout.specs.declared.Refusal.TheVariants.{Malformed, NotFirst}
 use Rattle.cuts.specs.Cuts.{reached, first_reached}
-use Rattle.letters.specs.Letter.{Letter, encode_letter, WellFormed}
+use Rattle.letters.specs.Letter.{Letter, encode_letter, place_told, WellFormed}
 use Rattle.letters.specs.Faults.{letter_fault, place_fault, verdict_in}
 use Rattle.letters.specs.declared.entry.Entry.{Entry}
 use Rattle.letters.specs.declared.check.Verdict.{Verdict}
@@ -24,7 +24,7 @@ first_place l = first_reached (λ j. slice_index_or (reached_list l.lot l.entrie
 abbrev pub judgement : Letter → Result Verdict Refusal
 judgement l =
     cond (l.place == first_place l)
-    (Ok (record { applicant = l.applicant; lot = record { 0 = l.lot }; entries = length l.entries; place = l.place }))
+    (Ok (record { applicant = l.applicant; lot = record { 0 = l.lot }; entries = length l.entries; place = place_told l.place }))
     (Err (NotFirst (first_place l)))
 
 -- what the checker says of bytes: the first fault, or else another place than the first reached

@@ -7,7 +7,7 @@ use Rattle.layout.specs.Bytes.{byte, word, refuse, first_of}
 use Rattle.layout.specs.declared.Refusal.{Refusal}
 use Rattle.layout.specs.declared.Refusal.TheVariants.{Malformed, NotFirst}
 use Rattle.cuts.specs.Cuts.{reached, first_reached}
-use Rattle.letters.specs.Letter.{count_in, entry_at, place_at, part_at, entry_in}
+use Rattle.letters.specs.Letter.{count_in, entry_at, place_at, place_told, part_at, entry_in}
 use Rattle.letters.specs.declared.entry.Entry.{Entry}
 use Rattle.letters.specs.declared.check.Verdict.{Verdict}
 
@@ -79,7 +79,7 @@ place_fault b = refuse (not (byte b (place_at b) == first_in b)) (NotFirst (firs
 
 -- what a letter that is right says beside its entries
 abbrev pub verdict_in : List ℕ → Verdict
-verdict_in b = record { applicant = word b 0; lot = record { 0 = word b 2 }; entries = count_in b; place = byte b (place_at b) }
+verdict_in b = record { applicant = word b 0; lot = record { 0 = word b 2 }; entries = count_in b; place = place_told (byte b (place_at b)) }
 
 -- entry j of a letter, where it is there and has no fault of its own
 abbrev pub taken_from : Option ℕ → Entry → Option Entry

@@ -1,6 +1,6 @@
 -- The bytes of a letter: where each number stands and what it says, as total functions of the bytes; and a letter written out.
 -- Definitions only.
-use Rattle.std.specs.Prelude.{◌≡◌, ℕ, ◌+◌, ◌*◌, ◌^◌, ◌<◌, ◌≤◌, true, cond, ◌⊎◌, List, [], ◌∷◌, ◌++◌, map, length, drop, ◌==◌}
+use Rattle.std.specs.Prelude.{◌≡◌, ℕ, ◌+◌, ◌*◌, ◌^◌, ◌<◌, ◌≤◌, true, cond, ◌⊎◌, List, [], ◌∷◌, ◌++◌, map, length, drop, Some, None, Option, ◌==◌}
 use Rattle.std.specs.List.{flat_map, AllByRecursion}
 use Rattle.layout.specs.Slices.{table}
 use Rattle.layout.specs.Tables.{no_repeat, most_entries}
@@ -56,6 +56,10 @@ entry_at j = 5 + 8 * j
 
 abbrev pub place_at : List ℕ → ℕ
 place_at b = entry_at (count_in b)
+
+-- the place that its byte says: 255 says that there is none
+abbrev pub place_told : ℕ → Option ℕ
+place_told p = cond (p == 255) None (Some p)
 
 -- the bytes from entry j on
 abbrev pub part_at : List ℕ → ℕ → List ℕ

@@ -1,4 +1,5 @@
 pub mod Letter
+pub mod Kinds
 pub mod Faults
 pub mod Exact
 pub mod Written

@@ -1,25 +1,29 @@
 // The checker of a letter, which needs nothing but the letter.
-ghost use Rattle.std.specs.Prelude.{◌≡◌, ◌<◌, ◌≤◌, false, ◌&&◌, if◌then◌else◌, nat_eq, slice_index_or};
+ghost use Rattle.std.specs.Prelude.{◌≡◌, ◌<◌, ◌≤◌, false, slice_index_or};
 ghost use Rattle.layout.specs.Slices.{outcome};
 ghost use Rattle.layout.specs.Tables.{most_entries};
 ghost use Rattle.layout.specs.Bytes.{byte, word, first_of};
-ghost use Rattle.letters.specs.Letter.{count_in, place_at, entry_at, part_at, entry_in};
-ghost use Rattle.letters.specs.Faults.{head_fault, judged, listed_fault, end_fault, first_in, entry_told};
+ghost use Rattle.cuts.specs.Cuts.{first_that};
+ghost use Rattle.letters.specs.Letter.{count_in, place_at, place_told, entry_at, part_at, entry_in};
+ghost use Rattle.letters.specs.Faults.{head_fault, judged, listed_fault, end_fault, reached_in, entry_told};
 ghost use Rattle.letters.specs.Exact.{judged_bytes, Exact};
 
-use crate::entry::{Entry, read_entry, word as number};
+use crate::entry::{Entry, read_entry};
 use codec::MOST_ENTRIES;
 use cuts::reaches;
 use layout::{Lot, Refusal};
 
+// The byte of a letter, and the number of a refusal, that say that no place was got.
+const NO_PLACE: usize = 255;
+
 // What a letter that is right says beside its entries: whose it is, the lot, how many entries, and the position in the list that
-// was got, or 255.
+// was got, if any.
 #[derive(Clone, Copy)]
 pub struct Verdict {
     pub applicant: u16,
     pub lot: Lot,
     pub entries: usize,
-    pub place: usize,
+    pub place: Option<usize>,
 }
 
 // Reads a letter, and whether its place is the first of the list whose cut is reached. It accepts exactly such letters.
@@ -35,14 +39,14 @@ fn judge(bytes: &[u8]) -> Result<Verdict, Refusal>
     ensures { result ≡ judged_bytes bytes.now }
 {
     let count = read_head(bytes)?;
-    let lot = Lot(number(bytes[2], bytes[3]));
+    let lot = Lot(u16::from_le_bytes([bytes[2], bytes[3]]));
     let first = read_entries(bytes, lot, count)?;
     let place = read_place(bytes, count)?;
     if place != first {
-        return Err(Refusal::NotFirst(first));
+        return Err(Refusal::NotFirst(first.unwrap_or(NO_PLACE)));
     }
     Ok(Verdict {
-        applicant: number(bytes[0], bytes[1]),
+        applicant: u16::from_le_bytes([bytes[0], bytes[1]]),
         lot,
         entries: count,
         place,
@@ -53,32 +57,28 @@ fn judge(bytes: &[u8]) -> Result<Verdict, Refusal>
 fn read_head(bytes: &[u8]) -> Result<usize, Refusal>
     ensures read { result ≡ outcome (head_fault bytes.now) (count_in bytes.now) }
 {
-    if bytes.len() < 5 {
+    let Some(count) = bytes.get(4) else {
         return Err(Refusal::Malformed(bytes.len()));
-    }
-    let count = bytes[4] as usize;
-    if count > MOST_ENTRIES as usize {
+    };
+    if *count > MOST_ENTRIES {
         return Err(Refusal::Malformed(4));
     }
-    Ok(count)
+    Ok(usize::from(*count))
 }
 
 // The first entry whose cut is reached, once all entries are well formed.
-fn read_entries(bytes: &[u8], lot: Lot, count: usize) -> Result<usize, Refusal>
+fn read_entries(bytes: &[u8], lot: Lot, count: usize) -> Result<Option<usize>, Refusal>
     requires counted { count ≡ count_in bytes.now }
     requires few { count ≤ most_entries }
     requires drawn { lot.0 ≡ word bytes.now 2 }
-    ensures { result ≡ outcome (first_of (listed_fault bytes.now) (count_in bytes.now)) (first_in bytes.now) }
+    ensures { result ≡ outcome (first_of (listed_fault bytes.now) (count_in bytes.now)) (first_that (reached_in bytes.now) (count_in bytes.now)) }
 {
     let mut seen = [false; 256];
-    let mut first = 255;
+    let mut first = None;
     for j in 0..count {
-        let entry = match read_listed(bytes, j, &seen) {
-            Ok(entry) => entry,
-            Err(refusal) => return Err(refusal),
-        };
-        seen[entry.workshop as usize] = true;
-        first = earlier(first, j, reaches(entry.points, lot, entry.cut));
+        let entry = read_listed(bytes, j, &seen)?;
+        seen[usize::from(entry.workshop)] = true;
+        first = first.or(reaches(entry.points, lot, entry.cut).then_some(j));
     }
     Ok(first)
 }
@@ -89,43 +89,33 @@ fn read_listed(bytes: &[u8], j: usize, seen: &[bool; 256]) -> Result<Entry, Refu
     ensures { result ≡ outcome (judged (slice_index_or seen.now (byte bytes.now (entry_at j)) false) bytes.now j) (entry_in (part_at bytes.now j)) }
 {
     let at = 5 + 8 * j;
-    if bytes.len() <= at {
+    let Some(workshop) = bytes.get(at) else {
         return Err(Refusal::Malformed(bytes.len()));
-    }
-    if seen[bytes[at] as usize] {
+    };
+    if seen[usize::from(*workshop)] {
         return Err(Refusal::Malformed(at));
     }
-    match read_entry(&bytes[at..]) {
-        Ok(entry) => Ok(entry),
-        Err(k) => Err(Refusal::Malformed(at + k)),
-    }
-}
-
-// The first position so far, once j is looked at too: 255 for none.
-fn earlier(first: usize, j: usize, found: bool) -> usize
-    ensures { result ≡ (if nat_eq first 255 && found then j else first) }
-{
-    if first == 255 && found { j } else { first }
+    read_entry(&bytes[at..]).map_err(|k| Refusal::Malformed(at + k))
 }
 
 // The place, behind the entries, with nothing behind it.
-fn read_place(bytes: &[u8], count: usize) -> Result<usize, Refusal>
+fn read_place(bytes: &[u8], count: usize) -> Result<Option<usize>, Refusal>
     requires counted { count ≡ count_in bytes.now }
     requires few { count ≤ most_entries }
-    ensures { result ≡ outcome (end_fault bytes.now) (byte bytes.now (place_at bytes.now)) }
+    ensures { result ≡ outcome (end_fault bytes.now) (place_told (byte bytes.now (place_at bytes.now))) }
 {
     let at = 5 + 8 * count;
-    if bytes.len() <= at {
+    let Some(byte) = bytes.get(at) else {
         return Err(Refusal::Malformed(bytes.len()));
-    }
-    let place = bytes[at] as usize;
-    if count <= place && place != 255 {
+    };
+    let place = usize::from(*byte);
+    if count <= place && place != NO_PLACE {
         return Err(Refusal::Malformed(at));
     }
     if bytes.len() > at + 1 {
         return Err(Refusal::Malformed(at + 1));
     }
-    Ok(place)
+    Ok((place != NO_PLACE).then_some(place))
 }
 
 // Entry j of a letter, where it is well formed by itself.
@@ -135,12 +125,5 @@ pub fn entry_at(bytes: &[u8], j: usize) -> Option<Entry>
     if j >= MOST_ENTRIES as usize {
         return None;
     }
-    let at = 5 + 8 * j;
-    if bytes.len() < at {
-        return None;
-    }
-    match read_entry(&bytes[at..]) {
-        Ok(entry) => Some(entry),
-        Err(_) => None,
-    }
+    read_entry(bytes.get(5 + 8 * j..)?).ok()
 }

@@ -7,7 +7,7 @@ use Rattle.layout.specs.Bytes.{byte, word, first_of, refuse}
 use Rattle.layout.proofs.Firsts.{or_else_none, refuse_none, first_of_none}
 use Rattle.layout.specs.declared.Lot.{Lot}
 use Rattle.cuts.specs.Cuts.{reached}
-use Rattle.letters.specs.Letter.{count_in, entry_at, place_at, part_at, entry_in}
+use Rattle.letters.specs.Letter.{count_in, entry_at, place_at, place_told, part_at, entry_in}
 use Rattle.letters.specs.Faults.{letter_fault, missing, head_fault, workshop_seen, listed_fault, end_fault, within, entry_fault, taken_from, entry_told}
 use Rattle.layout.specs.declared.Refusal.TheVariants.{Malformed}
 use Rattle.letters.specs.declared.entry.Entry.{Entry}
@@ -17,6 +17,10 @@ use Rattle.texts.specs.Words.{wish_line, got_line, got_none_line, entry_line, pl
 within_none : (at : ℕ) (f : Option ℕ) (e : Entry) → within at f ≡ None → taken_from f e ≡ Some e
 within_none at None e h = refl
 within_none at (Some k) e h = let z : ◌≡◌ {A = ℕ} 0 1 = cc in absurd (omega arith)
+
+-- the place that a byte says
+place_is : (n place : ℕ) → Some place ≡ place_told n → (place ≡ n) × (n ≡ 255 → ⊥)
+place_is n place told = grind (arith, nat_tests)
 
 module _ (b : List ℕ) (whole : letter_fault b ≡ None) where
   parts : (head_fault b ≡ None) × (first_of (listed_fault b) (count_in b) ≡ None) × (end_fault b ≡ None)
@@ -52,8 +56,11 @@ module _ (b : List ℕ) (whole : letter_fault b ≡ None) where
       let s : outside ≡ false = refuse_none outside (Malformed (place_at b)) k.0 in
       grind (arith, nat_tests)
 
-  pub got_whole : (place : ℕ) → place ≡ byte b (place_at b) → (place ≡ 255 → ⊥) → entry_told b place ≡ Some (entry_in (part_at b place))
-  got_whole place is ne = let l = place_listed (λ e. ne (is ∙ e)) in entry_whole place (omega arith)
+  pub got_whole : (place : ℕ) → Some place ≡ place_told (byte b (place_at b)) → entry_told b place ≡ Some (entry_in (part_at b place))
+  got_whole place told =
+      let p = place_is (byte b (place_at b)) place told in
+      let l = place_listed p.1 in
+      entry_whole place (omega arith)
 
 -- The lines of what was read: of an entry, with the letter's lot, and of the place.
 module _ (b : List ℕ) where
@@ -65,14 +72,15 @@ module _ (b : List ℕ) where
       let lot_is : lot ≡ record { 0 = word b 2 } = ap (λ (n : ℕ). record { 0 = n }) own in
       rw (is, e_is, lot_is)
 
-  module _ (place : ℕ) (is : place ≡ byte b (place_at b)) where
-    pub line_of_none : place ≡ 255 → got_none_line ≡ place_line b
-    unfolding place_line
-    line_of_none h = let t : eqb (byte b (place_at b)) 255 ≡ true = rw (sym is, h) refl in rw t
+  pub line_of_none : None ≡ place_told (byte b (place_at b)) → got_none_line ≡ place_line b
+  unfolding place_line
+  line_of_none none = let t : eqb (byte b (place_at b)) 255 ≡ true = grind (arith, nat_tests) in rw t
 
-    pub line_of_place : (place ≡ 255 → ⊥) → (e : Entry) → Some e ≡ Some (entry_in (part_at b place)) → got_line (place + 1) e.workshop ≡ place_line b
-    unfolding place_line
-    line_of_place ne e same =
-        let e_is : e ≡ entry_in (part_at b place) = cc in
-        let t : eqb (byte b (place_at b)) 255 ≡ false = grind (arith, nat_tests) in
-        rw (t, sym is, e_is)
+  pub line_of_place : (place : ℕ) → Some place ≡ place_told (byte b (place_at b)) → (e : Entry) → Some e ≡ Some (entry_in (part_at b place)) →
+      got_line (place + 1) e.workshop ≡ place_line b
+  unfolding place_line
+  line_of_place place told e same =
+      let p = place_is (byte b (place_at b)) place told in
+      let e_is : e ≡ entry_in (part_at b place) = cc in
+      let t : eqb (byte b (place_at b)) 255 ≡ false = grind (arith, nat_tests) in
+      rw (t, sym p.0, e_is)

@@ -3,7 +3,7 @@ ghost use Rattle.std.specs.Prelude.{◌≡◌, ◌<◌, ◌++◌, IfOk, None, st
 ghost use Rattle.layout.specs.Bytes.{byte, word};
 ghost use Rattle.layout.specs.Slices.{flat};
 ghost use Rattle.letters.specs.Faults.{letter_fault, verdict_in};
-ghost use Rattle.letters.specs.Letter.{count_in, place_at};
+ghost use Rattle.letters.specs.Letter.{count_in, place_at, place_told};
 ghost use Rattle.texts.specs.Faults.{Faulty};
 ghost use Rattle.texts.specs.Words.{fault_in_letter, entry_line, place_line, words_of};
 
@@ -80,15 +80,15 @@ fn push_entry(text: &mut String, letter: &[u8], lot: Lot, j: usize) -> Result<()
 }
 
 // What was got.
-fn push_place(text: &mut String, letter: &[u8], place: usize) -> Result<(), AllocError>
+fn push_place(text: &mut String, letter: &[u8], place: Option<usize>) -> Result<(), AllocError>
     requires whole { letter_fault letter.now ≡ None }
-    requires place { place ≡ byte letter.now (place_at letter.now) }
+    requires place { place ≡ place_told (byte letter.now (place_at letter.now)) }
     ensures { OnOk result (string_bytes text.new ≡ string_bytes text.old ++ place_line letter.now) }
 {
-    if place == 255 {
+    let Some(place) = place else {
         text.push_str("got none\n")?;
         return Ok(());
-    }
+    };
     let Some(entry) = entry_at(letter, place) else {
         unreachable()
     };

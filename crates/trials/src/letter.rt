@@ -11,7 +11,7 @@ fn is_judged_well(case: &Case, got: &Got, a: usize, place: usize) -> bool {
     match check_letter(letter.written()) {
         Ok(verdict) => {
             place == right
-                && verdict.place == right
+                && verdict.place.unwrap_or(255) == right
                 && verdict.applicant as usize == a
                 && verdict.lot.0 == case.lot_of(a)
                 && verdict.entries == case.count_of(a)
