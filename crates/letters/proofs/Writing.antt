@@ -23,6 +23,15 @@ over_part xs ys old whole part at e l g =
     let here : part ≡ ys ++ drop (at + length ys) old = g ∙ ap (over ys) (take_rest whole at ∙ rest) ∙ ap (λ (z : List ℕ). ys ++ z) (drop-drop (length ys) at old) in
     simp (front, back, here, append-nil, length-append, l, append_assoc)
 
+-- the same where only as many bytes are lent as ys has
+pub over_bytes : (xs ys old whole : List ℕ) (at n : ℕ) → whole ≡ over xs old → length xs ≡ at → length ys ≡ n →
+    put_mid at n whole ys ≡ over (xs ++ ys) old
+over_bytes xs ys old whole at n e l k =
+    let front : take at whole ≡ xs = ap (take at) e ∙ take_at xs _ at l in
+    let rest : drop at whole ≡ drop at old = ap (drop at) e ∙ drop_at xs _ at l ∙ ap (λ (m : ℕ). drop m old) l in
+    let behind : drop n (drop at whole) ≡ drop (at + n) old = ap (drop n) rest ∙ drop-drop n at old in
+    simp (front, behind, length-append, l, k, append_assoc)
+
 pub length_rest : (whole : List ℕ) (at : ℕ) → length (take (length whole - at) (drop at whole)) ≡ length whole - at
 length_rest whole at = ap (λ (z : List ℕ). length z) (take_rest whole at) ∙ length-drop at whole
 

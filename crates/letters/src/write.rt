@@ -5,11 +5,12 @@ ghost use Rattle.layout.specs.Slices.{over, laid, outcome};
 ghost use Rattle.layout.specs.Tables.{applicants};
 ghost use Rattle.codec.specs.Rounds.{tables_of};
 ghost use Rattle.asking.specs.Ended.{no_room};
-ghost use Rattle.letters.specs.Letter.{head_bytes, entry_bytes, kind_of, cut_points, cut_lot};
+ghost use Rattle.letters.specs.Letter.{head_bytes, entry_bytes};
 ghost use Rattle.letters.specs.Settled.{Settled, Accepted};
 ghost use Rattle.letters.specs.Written.{all_seats, CutsTold, entry_from, entries_from, letter_bytes, letter_length, letter_room, all_letters, all_length, letters_room};
 
-use crate::entry::Entry;
+use crate::entry::{Entry, Kind};
+use asking::Left;
 use codec::Round;
 use cuts::{Cut, cut_of};
 use layout::{Lent, Lot, Points, Refusal};
@@ -25,124 +26,44 @@ pub fn letter_len(round: &Round, applicant: usize) -> usize
     6 + 8 * (round.starts[applicant + 1] as usize - round.starts[applicant] as usize)
 }
 
-// Writes an applicant's letter to the front of out, and says how many bytes it has. rows are the rows of all list entries, results
-// and benches what asking to the end left; with these the checker accepts the letter.
+// Writes an applicant's letter to the front of out, and says how many bytes it has. left is what asking to the end left, with the
+// rows of all list entries; with it the checker accepts the letter.
 pub fn write_letter(
     round: &Round,
-    rows: &[u32],
-    results: &[u16],
-    benches: &[u32],
+    left: Left,
     applicant: usize,
     out: &mut [u8],
 ) -> Result<usize, Refusal>
-    ensures told { result ≡ outcome (letter_room (tables_of round.now) (length results.now) (length benches.now) (length rows.now) applicant (length out.old)) (letter_length (tables_of round.now) applicant) }
-    ensures written { out.new ≡ laid result (letter_bytes (tables_of round.now) rows.now results.now benches.now applicant) out.old }
-    ensures accepted { Settled (tables_of round.now) rows.now results.now benches.now → IfOk result (λ n. Accepted (take n out.new)) }
+    ensures told { result ≡ outcome (letter_room (tables_of round.now) (length left.entry.results.now) (length left.entry.benches.now) (length left.entry.rows.now) applicant (length out.old)) (letter_length (tables_of round.now) applicant) }
+    ensures written { out.new ≡ laid result (letter_bytes (tables_of round.now) left.entry.rows.now left.entry.results.now left.entry.benches.now applicant) out.old }
+    ensures accepted { Settled (tables_of round.now) left.entry.rows.now left.entry.results.now left.entry.benches.now → IfOk result (λ n. Accepted (take n out.new)) }
 {
     if applicant >= round.lots.len() {
         return Err(Refusal::NoRoom(Lent::Results));
     }
-    if let Some(refusal) = short_of(round, rows, results, benches) {
-        return Err(refusal);
-    }
+    left.room(round)?;
     let len = letter_len(round, applicant);
     if out.len() < len {
         return Err(Refusal::NoRoom(Lent::Letters));
     }
-    put_letter(
-        round,
-        rows,
-        results,
-        benches,
-        &all_cuts(round, benches),
-        applicant,
-        out,
-    );
+    let cuts = all_cuts(round, left.benches);
+    Writer { round, left, cuts }.put_letter(applicant, out);
     Ok(len)
 }
 
 // Writes all letters, one after the other.
-pub fn write_letters(
-    round: &Round,
-    rows: &[u32],
-    results: &[u16],
-    benches: &[u32],
-    out: &mut [u8],
-) -> Result<usize, Refusal>
-    ensures told { result ≡ outcome (letters_room (tables_of round.now) (length results.now) (length benches.now) (length rows.now) (length out.old)) (all_length (tables_of round.now)) }
-    ensures written { out.new ≡ laid result (all_letters (tables_of round.now) rows.now results.now benches.now) out.old }
+pub fn write_letters(round: &Round, left: Left, out: &mut [u8]) -> Result<usize, Refusal>
+    ensures told { result ≡ outcome (letters_room (tables_of round.now) (length left.entry.results.now) (length left.entry.benches.now) (length left.entry.rows.now) (length out.old)) (all_length (tables_of round.now)) }
+    ensures written { out.new ≡ laid result (all_letters (tables_of round.now) left.entry.rows.now left.entry.results.now left.entry.benches.now) out.old }
 {
-    if let Some(refusal) = short_of(round, rows, results, benches) {
-        return Err(refusal);
-    }
-    let len = 6 * round.lots.len() + 8 * (round.starts[round.lots.len()] as usize);
+    left.room(round)?;
+    let len = 6 * round.lots.len() + 8 * round.entries.len();
     if out.len() < len {
         return Err(Refusal::NoRoom(Lent::Letters));
     }
-    put_letters(
-        round,
-        rows,
-        results,
-        benches,
-        &all_cuts(round, benches),
-        out,
-    );
+    let cuts = all_cuts(round, left.benches);
+    Writer { round, left, cuts }.put_letters(out);
     Ok(len)
-}
-
-// Which of the lists is too short for the round.
-fn short_of(round: &Round, rows: &[u32], results: &[u16], benches: &[u32]) -> Option<Refusal>
-    ensures { result ≡ no_room (tables_of round.now) (length results.now) (length benches.now) (length rows.now) }
-{
-    if results.len() < round.lots.len() {
-        return Some(Refusal::NoRoom(Lent::Results));
-    }
-    if benches.len() < round.seats[round.seats.len() - 1] as usize {
-        return Some(Refusal::NoRoom(Lent::Benches));
-    }
-    if rows.len() < round.entries.len() {
-        return Some(Refusal::NoRoom(Lent::RoundTables));
-    }
-    None
-}
-
-// The number of a cut's kind, its points and its lot, as a letter has them.
-fn cut_numbers(cut: Cut) -> (u8, u16, u16)
-    ensures { result ≡ (kind_of cut, cut_points cut, cut_lot cut) }
-{
-    match cut {
-        Cut::Open => (0, 0, 0),
-        Cut::Full(Points(points), Lot(lot)) => (1, points, lot),
-        Cut::Shut => (2, 0, 0),
-    }
-}
-
-// Lays an entry over the first eight bytes of a part.
-fn put_entry(entry: Entry, part: &mut [u8])
-    requires { 8 ≤ length part.old }
-    ensures { part.new ≡ over (entry_bytes entry) part.old }
-{
-    let (kind, points, lot) = cut_numbers(entry.cut);
-    part[0] = entry.workshop;
-    part[1] = (entry.points.0 % 256) as u8;
-    part[2] = (entry.points.0 / 256) as u8;
-    part[3] = kind;
-    part[4] = (points % 256) as u8;
-    part[5] = (points / 256) as u8;
-    part[6] = (lot % 256) as u8;
-    part[7] = (lot / 256) as u8;
-}
-
-// Lays what stands before the entries over the first five bytes.
-fn put_head(applicant: u16, lot: u16, count: u8, part: &mut [u8])
-    requires { 5 ≤ length part.old }
-    ensures { part.new ≡ over (head_bytes applicant lot count) part.old }
-{
-    part[0] = (applicant % 256) as u8;
-    part[1] = (applicant / 256) as u8;
-    part[2] = (lot % 256) as u8;
-    part[3] = (lot / 256) as u8;
-    part[4] = count;
 }
 
 // The cuts of all workshops, worked out once for the many entries that name them.
@@ -159,85 +80,98 @@ fn all_cuts(round: &Round, benches: &[u32]) -> [Cut; 256]
     cuts
 }
 
-// What a letter says of entry k, among the entries of all lists. The benches are those of which the cuts were worked out: here and
-// below they stand for what the cuts mean.
-fn entry_of(round: &Round, rows: &[u32], benches: &[u32], cuts: &[Cut; 256], k: usize) -> Entry
-    requires listed { k < length round.now.entries.now }
-    requires found { length round.now.entries.now ≤ length rows.now }
-    requires told { CutsTold (tables_of round.now) benches.now cuts.now }
-    ensures { result ≡ entry_from (tables_of round.now) rows.now benches.now k }
+// The eight bytes of an entry.
+fn bytes_of(entry: Entry) -> [u8; 8]
+    ensures { result ≡ entry_bytes entry }
 {
-    let workshop = round.entries[k];
-    Entry {
-        workshop: workshop as u8,
-        points: points_of(round, rows[k]),
-        cut: cuts[workshop as usize],
+    let (kind, points, lot) = match entry.cut {
+        Cut::Open => (Kind::Open, 0, 0),
+        Cut::Full(Points(points), Lot(lot)) => (Kind::Full, points, lot),
+        Cut::Shut => (Kind::Shut, 0, 0),
+    };
+    let [own_low, own_high] = entry.points.0.to_le_bytes();
+    let [points_low, points_high] = points.to_le_bytes();
+    let [lot_low, lot_high] = lot.to_le_bytes();
+    [
+        entry.workshop,
+        own_low,
+        own_high,
+        kind as u8,
+        points_low,
+        points_high,
+        lot_low,
+        lot_high,
+    ]
+}
+
+// Lays what stands before the entries over the first five bytes.
+fn put_head(applicant: u16, lot: u16, count: u8, part: &mut [u8])
+    requires { 5 ≤ length part.old }
+    ensures { part.new ≡ over (head_bytes applicant lot count) part.old }
+{
+    part[0..2].copy_from_slice(&applicant.to_le_bytes());
+    part[2..4].copy_from_slice(&lot.to_le_bytes());
+    part[4] = count;
+}
+
+// What letters are written from: a round, what asking left of it, which is long enough, and the cuts of its workshops.
+#[derive(Drop)]
+struct Writer<'r, 't, 'l> {
+    round: &'r Round<'t>,
+    left: Left<'l>,
+    cuts: [Cut; 256],
+    ghost room: { no_room (tables_of round.now) (length left.results.now) (length left.benches.now) (length left.rows.now) ≡ None },
+    ghost told: { CutsTold (tables_of round.now) left.benches.now cuts },
+}
+
+impl Writer<'_, '_, '_> {
+    // What a letter says of entry k, among the entries of all lists.
+    fn entry(&self, k: usize) -> Entry
+        requires { k < length self.now.round.now.entries.now }
+        ensures { result ≡ entry_from (tables_of self.now.round.now) self.now.left.rows.now self.now.left.benches.now k }
+    {
+        let workshop = self.round.entries[k];
+        Entry {
+            workshop: workshop as u8,
+            points: points_of(self.round, self.left.rows[k]),
+            cut: self.cuts[workshop as usize],
+        }
     }
-}
 
-// Lays the entries from start on over a part.
-fn put_entries(
-    round: &Round,
-    rows: &[u32],
-    benches: &[u32],
-    cuts: &[Cut; 256],
-    start: usize,
-    count: usize,
-    part: &mut [u8],
-)
-    requires within { start + count ≤ length round.now.entries.now }
-    requires found { length round.now.entries.now ≤ length rows.now }
-    requires told { CutsTold (tables_of round.now) benches.now cuts.now }
-    requires room { 8 * count ≤ length part.old }
-    ensures { part.new ≡ over (flat_map entry_bytes (entries_from (tables_of round.now) rows.now benches.now start count)) part.old }
-{
-    for j in 0..count {
-        put_entry(
-            entry_of(round, rows, benches, cuts, start + j),
-            &mut part[8 * j..],
-        );
+    // Lays the entries from start on over a part.
+    fn put_entries(&self, start: usize, count: usize, part: &mut [u8])
+        requires within { start + count ≤ length self.now.round.now.entries.now }
+        requires room { 8 * count ≤ length part.old }
+        ensures { part.new ≡ over (flat_map entry_bytes (entries_from (tables_of self.now.round.now) self.now.left.rows.now self.now.left.benches.now start count)) part.old }
+    {
+        for j in 0..count {
+            part[8 * j..8 * j + 8].copy_from_slice(&bytes_of(self.entry(start + j)));
+        }
     }
-}
 
-// Lays an applicant's letter over the front of a part.
-fn put_letter(
-    round: &Round,
-    rows: &[u32],
-    results: &[u16],
-    benches: &[u32],
-    cuts: &[Cut; 256],
-    applicant: usize,
-    part: &mut [u8],
-)
-    requires applicant { applicant < applicants (tables_of round.now) }
-    requires ready { no_room (tables_of round.now) (length results.now) (length benches.now) (length rows.now) ≡ None }
-    requires room { letter_length (tables_of round.now) applicant ≤ length part.old }
-    requires told { CutsTold (tables_of round.now) benches.now cuts.now }
-    ensures { part.new ≡ over (letter_bytes (tables_of round.now) rows.now results.now benches.now applicant) part.old }
-{
-    let start = round.starts[applicant] as usize;
-    let count = round.starts[applicant + 1] as usize - start;
-    put_head(applicant as u16, round.lots[applicant], count as u8, part);
-    put_entries(round, rows, benches, cuts, start, count, &mut part[5..]);
-    part[5 + 8 * count] = (results[applicant] % 256) as u8;
-}
+    // Lays an applicant's letter over the front of a part.
+    fn put_letter(&self, applicant: usize, part: &mut [u8])
+        requires applicant { applicant < applicants (tables_of self.now.round.now) }
+        requires room { letter_length (tables_of self.now.round.now) applicant ≤ length part.old }
+        ensures { part.new ≡ over (letter_bytes (tables_of self.now.round.now) self.now.left.rows.now self.now.left.results.now self.now.left.benches.now applicant) part.old }
+    {
+        let round = self.round;
+        let start = round.starts[applicant] as usize;
+        let count = round.starts[applicant + 1] as usize - start;
+        let [place, _] = self.left.results[applicant].to_le_bytes();
+        put_head(applicant as u16, round.lots[applicant], count as u8, part);
+        self.put_entries(start, count, &mut part[5..]);
+        part[5 + 8 * count] = place;
+    }
 
-// Lays all letters over the front of a part.
-fn put_letters(
-    round: &Round,
-    rows: &[u32],
-    results: &[u16],
-    benches: &[u32],
-    cuts: &[Cut; 256],
-    part: &mut [u8],
-)
-    requires ready { no_room (tables_of round.now) (length results.now) (length benches.now) (length rows.now) ≡ None }
-    requires room { all_length (tables_of round.now) ≤ length part.old }
-    requires told { CutsTold (tables_of round.now) benches.now cuts.now }
-    ensures { part.new ≡ over (all_letters (tables_of round.now) rows.now results.now benches.now) part.old }
-{
-    for a in 0..round.lots.len() {
-        let at = 6 * a + 8 * (round.starts[a] as usize);
-        put_letter(round, rows, results, benches, cuts, a, &mut part[at..]);
+    // Lays all letters over the front of a part.
+    fn put_letters(&self, part: &mut [u8])
+        requires { all_length (tables_of self.now.round.now) ≤ length part.old }
+        ensures { part.new ≡ over (all_letters (tables_of self.now.round.now) self.now.left.rows.now self.now.left.results.now self.now.left.benches.now) part.old }
+    {
+        for a in 0..self.round.lots.len() {
+            let at = 6 * a + 8 * (self.round.starts[a] as usize);
+            self.put_letter(a, &mut part[at..]);
+        }
     }
 }

@@ -120,13 +120,12 @@ fn write_all(heap: Global, round: &Round, asked: &Asked) -> Result<Vec<u8>, Allo
     ensures { IfOk result (λ v. v.items ≡ letters_of (tables_of round.now)) }
 {
     let mut letters = vec![in heap; 0u8; 6 * round.lots.len() + 8 * round.entries.len()]?;
-    match letters::write_letters(
-        round,
-        &asked.rows,
-        &asked.results,
-        &asked.benches,
-        &mut letters,
-    ) {
+    let left = asking::Left {
+        rows: &asked.rows,
+        results: &asked.results,
+        benches: &asked.benches,
+    };
+    match letters::write_letters(round, left, &mut letters) {
         Ok(_) => Ok(letters),
         Err(_) => unreachable(),
     }

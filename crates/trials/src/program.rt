@@ -88,7 +88,12 @@ fn same_bytes(xs: &[u8], ys: &[u8]) -> bool {
 // Whether the program's letter for a is the one that the trials write.
 fn is_letter_same(case: &Case, round: &Round, left: &Left, got: &Got, a: usize) -> bool {
     let mut out = [0u8; 40];
-    let Ok(len) = write_letter(round, &left.rows, &left.results, &left.benches, a, &mut out) else {
+    let left = asking::Left {
+        rows: &left.rows,
+        results: &left.results,
+        benches: &left.benches,
+    };
+    let Ok(len) = write_letter(round, left, a, &mut out) else {
         return false;
     };
     let own = bytes::letter(case, got, a, cut::place(case, got, a));
