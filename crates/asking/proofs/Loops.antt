@@ -1,14 +1,14 @@
 -- What the two loops of a run keep true: how it begins, and what an ask or a list that is used up makes of it.
-use Rattle.std.proofs.Common.{◌≡◌, ℕ, ◌+◌, ◌<◌, ◌≤◌, Bool, List, length, get_or, drop, sym, refl, ap, ◌∙◌, subst, inl, inr, arith}
+use Rattle.std.proofs.Common.{◌≡◌, ℕ, ◌+◌, ◌<◌, ◌≤◌, Bool, List, length, get_or, drop, Some, None, sym, refl, ap, ◌∙◌, subst, inl, inr, arith}
 use mathlib.Core.Path.{fun_ext}
 use Rattle.std.proofs.lemmas.Bool.{cases_lt, cases_eq}
 use Rattle.std.proofs.lemmas.List.{get_or-set_same, get_or-set_other, drop-set-lt, length-set}
 use Rattle.layout.specs.Tables.{Tables, Proper, applicants, workshops, list_length, most_entries}
 use Rattle.round.proofs.Ends.{reached_within}
 use Rattle.points.specs.Standing.{market}
-use Rattle.asking.specs.Ended.{bench_of}
+use Rattle.asking.specs.declared.Desk.{Desk}
+use Rattle.asking.specs.Ended.{bench_of, SameSlices}
 use Rattle.asking.specs.Asking.{at_rest, but_for, one_more, asks_so_far, Asking, After, Behind, Resting, Waiting}
-use Rattle.asking.specs.declared.Turn.TheVariants.{Settled, Asks}
 use Rattle.asking.proofs.Parts.{counts_at, counts_set_other, but_for_same, but_for_other, counts_one_more, rest_one_more}
 use Rattle.asking.proofs.Tabled.{market_len}
 use Rattle.asking.proofs.Proper.{lawful}
@@ -17,6 +17,10 @@ use Rattle.asking.proofs.Sums.{asks_none, asks_few, asks_one_more, asks_used_up}
 
 asking_same : (t : Tables) (results benches : List ℕ) (d e : ℕ → ℕ) → ((c : ℕ) → d c ≡ e c) → Asking t d results benches → Asking t e results benches
 asking_same t results benches d e h = subst (λ (f : ℕ → ℕ). Asking t f results benches) (fun_ext h)
+
+-- the slices of a desk stay the same over both of two steps
+pub same_since : (first old now : Desk) → SameSlices first old → SameSlices old now → SameSlices first now
+same_since first old now s r = record { rows = r.rows ∙ s.rows; results = r.results ∙ s.results; benches = r.benches ∙ s.benches }
 
 module _ (t : Tables) (ok : Proper t) (results benches : List ℕ) where
   pub resting_begins : Asking t (at_rest t results) results benches → ((c : ℕ) → c < applicants t → get_or results c 0 ≡ 0) → Resting t results benches results benches 0 0
@@ -30,7 +34,7 @@ module _ (t : Tables) (ok : Proper t) (results benches : List ℕ) where
       }
 
 module _ (t : Tables) (ok : Proper t) (results benches old_results old_benches : List ℕ) where
-  pub waiting_begins : (a asks : ℕ) → a < applicants t → Resting t results benches old_results old_benches a asks → Waiting t results benches results benches a a asks
+  pub waiting_begins : (a asks : ℕ) → a < applicants t → Resting t results benches old_results old_benches a asks → Waiting t results benches old_results old_benches a a asks
   unfolding at_rest
   waiting_begins a asks l rest =
       record {
@@ -48,7 +52,7 @@ module _ (t : Tables) (ok : Proper t) (results benches old_results old_benches :
         begun = λ c h ne. rest.begun c (omega arith);
         later = λ c h. rest.later c (omega arith);
         counted = rest.counted;
-        behind = record { results_behind = refl; benches_behind = refl };
+        behind = rest.behind;
       }
 
   -- what is behind since an earlier time
@@ -127,7 +131,7 @@ module _ (t : Tables) (ok : Proper t) (results benches old_results old_benches :
       asks_left = let few = asks_few t ok (one_more results asker) in let one = counted_after in omega arith
 
       module _ (results' benches' : List ℕ) (is_results : results' ≡ one_more results asker) (behind : drop (get_or t.seats (workshops t) 0) benches' ≡ drop (get_or t.seats (workshops t) 0) benches) where
-        pub waiting_settles : After t Settled results' benches' → Resting t results' benches' old_results old_benches (a + 1) (asks + 1)
+        pub waiting_settles : After t None results' benches' → Resting t results' benches' old_results old_benches (a + 1) (asks + 1)
         waiting_settles after =
             rw is_results
             (record {
@@ -138,9 +142,9 @@ module _ (t : Tables) (ok : Proper t) (results benches old_results old_benches :
               behind = record { results_behind = behind_after; benches_behind = behind ∙ wait.behind.benches_behind };
             })
 
-        pub waiting_on : (other : ℕ) → After t (Asks other) results' benches' → Waiting t results' benches' old_results old_benches a other (asks + 1)
+        pub waiting_on : (other : ℕ) → After t (Some other) results' benches' → Waiting t results' benches' old_results old_benches a other (asks + 1)
         waiting_on other after' =
-            let after : After t (Asks other) (one_more results asker) benches' = rw is_results at after' in
+            let after : After t (Some other) (one_more results asker) benches' = rw is_results at after' in
             rw is_results
             (record {
               small = (elim (cases_lt other (a + 1)) [ inl h ↦ h | inr h ↦ let none = later_after other (omega arith) after.0 in absurd (omega (arith, after.1)) ], wait.small.1);

@@ -1,5 +1,5 @@
 -- One ask in the slices of a run: what they hold stays how far asking has come, whatever the workshop answers.
-use Rattle.std.proofs.Common.{◌≡◌, ℕ, ◌+◌, ◌-◌, ◌<◌, Bool, true, false, ◌≢◌, List, length, get_or, drop, sym, ap, ◌∙◌, subst, inl, inr, arith}
+use Rattle.std.proofs.Common.{◌≡◌, ℕ, ◌+◌, ◌-◌, ◌<◌, Bool, true, false, ◌≢◌, List, length, get_or, drop, Some, None, sym, ap, ◌∙◌, subst, inl, inr, arith}
 use mathlib.Core.Path.{fun_ext}
 use borrow.Rule.Slice.PartMut.{put_mid}
 use Rattle.std.specs.List.{between}
@@ -13,8 +13,7 @@ use Rattle.bench.specs.declared.Answer.{Answer}
 use Rattle.bench.specs.declared.Answer.TheVariants.{Kept, Displaced, TurnedDown}
 use Rattle.bench.proofs.Told.{answer_kept, answer_displaced, answer_turned_down}
 use Rattle.asking.specs.Ended.{bench_of}
-use Rattle.asking.specs.Asking.{gone, Going, counts, at_rest, but_for, one_more, Asking, After, turn_of}
-use Rattle.asking.specs.declared.Turn.TheVariants.{Settled, Asks}
+use Rattle.asking.specs.Asking.{gone, Going, counts, at_rest, but_for, one_more, Asking, After, asks_on}
 use Rattle.asking.proofs.Parts.{counts_at, counts_set_other, counts_one_more, rest_one_more, but_for_same, but_for_other, between_same, between_other, length_parts, drop_behind}
 use Rattle.asking.proofs.Progress.{gone_from, gone_parts, not_gone, gone_elsewhere, going_kept, going_out}
 use Rattle.asking.proofs.Tabled.{market_n, market_m, market_len, market_entry}
@@ -139,7 +138,7 @@ module _ (t : Tables) (ok : Proper t) (results benches part : List ℕ) (b w x y
   rowless_out none = y_is ∙ left_out_worthless (row_worth t) (row_of t w b) _ (ap (row_worth t) none ∙ row_worth_none t ok) ∙ sym is_x
 
   -- b has a seat that was empty
-  step_kept : y ≢ x → y ≡ no_row → After t Settled (one_more results b) (put_mid (get_or t.seats w 0) (places_at t w) benches part)
+  step_kept : y ≢ x → y ≡ no_row → After t None (one_more results b) (put_mid (get_or t.seats w 0) (places_at t w) benches part)
   unfolding at_rest
   step_kept ne none =
       let row : row_of t w b ≢ no_row = λ e. ne (none ∙ sym e ∙ sym is_x) in
@@ -152,7 +151,7 @@ module _ (t : Tables) (ok : Proper t) (results benches part : List ℕ) (b w x y
   step_out : (o : ℕ) → gone (market t).wish (counts t (one_more results b)) w o ≡ true → (market t).wish.pos o w ≡ but_for t results b o →
       (market t).keeps w (gone (market t).wish (counts t (one_more results b)) w) o ≡ false →
       ((c : ℕ) → c ≢ o → gone (market t).wish (counts t (one_more results b)) w c ≡ true → (market t).wish.pos c w ≡ but_for t results b c → (market t).keeps w (gone (market t).wish (counts t (one_more results b)) w) c ≡ true) →
-      After t (Asks o) (one_more results b) (put_mid (get_or t.seats w 0) (places_at t w) benches part)
+      After t (Some o) (one_more results b) (put_mid (get_or t.seats w 0) (places_at t w) benches part)
   step_out o h at out kept =
       let on : but_for t (one_more results b) o o ≡ but_for t results b o + 1 =
       (let in_y = gone_parts (market t).wish _ w o h in let r = rest_after o in let f = but_for_same t (one_more results b) o in omega arith) in
@@ -166,7 +165,7 @@ module _ (t : Tables) (ok : Proper t) (results benches part : List ℕ) (b w x y
       )
 
   -- b has the seat of y
-  step_displaced : y ≢ x → y ≢ no_row → After t (Asks (get_or t.row_applicants y 0)) (one_more results b) (put_mid (get_or t.seats w 0) (places_at t w) benches part)
+  step_displaced : y ≢ x → y ≢ no_row → After t (Some (get_or t.row_applicants y 0)) (one_more results b) (put_mid (get_or t.seats w 0) (places_at t w) benches part)
   step_displaced ne row =
       let f = out_not_kept t ok w lw _ _ b small new now same_gone y y_is row in
       let k : (market t).keeps w (gone (market t).wish (counts t results) w) (get_or t.row_applicants y 0) ≡ true = elim f.2 [ inl e ↦ absurd (ne (e ∙ sym is_x)) | inr k ↦ k ] in
@@ -179,7 +178,7 @@ module _ (t : Tables) (ok : Proper t) (results benches part : List ℕ) (b w x y
       (λ _ z. ne (rowless_out z)) h at)
 
   -- b is turned down
-  step_turned_down : y ≡ x → After t (Asks b) (one_more results b) (put_mid (get_or t.seats w 0) (places_at t w) benches part)
+  step_turned_down : y ≡ x → After t (Some b) (one_more results b) (put_mid (get_or t.seats w 0) (places_at t w) benches part)
   step_turned_down e =
       let out : (market t).keeps w (gone (market t).wish (counts t (one_more results b)) w) b ≡ false =
       elim (cases_eq (row_of t w b) no_row) [
@@ -209,7 +208,7 @@ module _ (t : Tables) (ok : Proper t) (results benches part : List ℕ) (b w x y
       let f = out_not_kept t ok w lw _ _ b small new now same_gone y y_is told.1 in
       rw (← told.2) (row_small t ok w lw y f.0)
 
-  pub step_answer : (r : Answer) → r ≡ answer_of x y → After t (turn_of t b r) (one_more results b) (put_mid (get_or t.seats w 0) (places_at t w) benches part)
+  pub step_answer : (r : Answer) → r ≡ answer_of x y → After t (asks_on t b r) (one_more results b) (put_mid (get_or t.seats w 0) (places_at t w) benches part)
   step_answer Kept e = let told = answer_kept x y (sym e) in step_kept told.0 told.1
   step_answer (Displaced z) e = let told = answer_displaced x y z (sym e) in rw (← told.2) (step_displaced told.0 told.1)
   step_answer TurnedDown e = step_turned_down (answer_turned_down x y (sym e))

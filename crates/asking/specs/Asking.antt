@@ -1,5 +1,5 @@
 -- How far asking one after the other has come: in any market, and in the slices of a run. Definitions only.
-use Rattle.std.specs.Prelude.{◌≡◌, ℕ, ◌+◌, ◌-◌, ◌<◌, ◌≤◌, min, Bool, true, false, cond, ◌&&◌, ◌≢◌, List, length, take, drop, ◌==◌, nat_lt, slice_index, slice_set}
+use Rattle.std.specs.Prelude.{◌≡◌, ℕ, ◌+◌, ◌-◌, ◌<◌, ◌≤◌, min, Bool, true, false, cond, ◌&&◌, ◌≢◌, List, length, take, drop, Some, None, Option, ◌==◌, nat_lt, slice_index, slice_set}
 use Rattle.std.specs.List.{between}
 use Rattle.layout.specs.Tables.{Tables, applicants, workshops, list_length}
 use Rattle.round.specs.Market.{Wish, Market, Reached, sum}
@@ -7,8 +7,6 @@ use Rattle.points.specs.Standing.{market}
 use Rattle.asking.specs.Ended.{bench_of}
 use Rattle.bench.specs.declared.Answer.{Answer}
 use Rattle.bench.specs.declared.Answer.TheVariants.{Kept, Displaced, TurnedDown}
-use Rattle.asking.specs.declared.Turn.{Turn}
-use Rattle.asking.specs.declared.Turn.TheVariants.{Settled, Asks}
 
 -- whoever has asked p, where u says how many entries each has asked
 unfoldable pub gone : Wish → (ℕ → ℕ) → ℕ → ℕ → Bool
@@ -56,15 +54,15 @@ pub record Asking (t : Tables) (d : ℕ → ℕ) (results benches : List ℕ) : 
   pub room : (applicants t ≤ length results) × (slice_index t.seats (workshops t) ≤ length benches)
 
 -- after an ask: nobody has to ask on, or this applicant has
-abbrev pub After : Tables → Turn → List ℕ → List ℕ → Type 0
-After t Settled results benches = Asking t (at_rest t results) results benches
-After t (Asks c) results benches = (c < applicants t) × (0 < slice_index results c) × Asking t (but_for t results c) results benches
+abbrev pub After : Tables → Option ℕ → List ℕ → List ℕ → Type 0
+After t None results benches = Asking t (at_rest t results) results benches
+After t (Some c) results benches = (c < applicants t) × (0 < slice_index results c) × Asking t (but_for t results c) results benches
 
 -- who asks on after b's ask, by the answer to it
-abbrev pub turn_of : Tables → ℕ → Answer → Turn
-turn_of t b Kept = Settled
-turn_of t b (Displaced row) = Asks (slice_index t.row_applicants row)
-turn_of t b TurnedDown = Asks b
+abbrev pub asks_on : Tables → ℕ → Answer → Option ℕ
+asks_on t b Kept = None
+asks_on t b (Displaced row) = Some (slice_index t.row_applicants row)
+asks_on t b TurnedDown = Some b
 
 -- what lies behind the results and the benches is as it was
 pub record Behind (t : Tables) (results benches old_results old_benches : List ℕ) : Type 0 where

@@ -12,6 +12,7 @@ use Rattle.round.specs.Promise.{Proper, Stable, rank, with_list}
 use Rattle.round.specs.Market.{Market, asked, final, placed_at, got, asks}
 use Rattle.round.specs.ByPoints.{market_of}
 use Rattle.points.specs.Standing.{row_worth, round_of, market}
+use Rattle.asking.specs.declared.Desk.{Desk}
 use Rattle.bench.specs.Row.{after_all, empty_bench}
 
 -- what an applicant is told: the position in its list of what it got, from 0, or 255 for nothing
@@ -51,6 +52,12 @@ no_room t results benches rows =
     or_else (refuse (nat_lt results (applicants t)) (NoRoom Results))
     (or_else (refuse (nat_lt benches (slice_index t.seats (workshops t))) (NoRoom Benches))
     (refuse (nat_lt rows (length t.entries)) (NoRoom RoundTables)))
+
+-- the same slices lie on the desk, whatever they hold
+pub record SameSlices (old new : Desk) : Type 0 where
+  pub rows : new.rows.ghost_name ≡ old.rows.ghost_name
+  pub results : new.results.ghost_name ≡ old.results.ghost_name
+  pub benches : new.benches.ghost_name ≡ old.benches.ghost_name
 
 -- What the run of a round promises. stable and dearest: no applicant and workshop would rather have each other, and no stable
 -- assignment gives anybody anything dearer. truthful: no other list l gets b anything dearer, by its own list, than its own list

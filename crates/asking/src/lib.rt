@@ -7,7 +7,7 @@ ghost use Rattle.layout.specs.Tables.{applicants, workshops, list_length};
 ghost use Rattle.codec.specs.Rounds.{tables_of};
 ghost use Rattle.round.specs.Market.{asks, placed, count};
 ghost use Rattle.points.specs.Standing.{rows_found, market};
-ghost use Rattle.asking.specs.Ended.{told, benches_of, no_room, Fair};
+ghost use Rattle.asking.specs.Ended.{told, benches_of, no_room, SameSlices, Fair};
 ghost use Rattle.asking.specs.Asking.{Asking, After, Resting, at_rest, but_for, one_more, ends_at, told_from};
 
 use bench::Answer;
@@ -79,49 +79,39 @@ pub fn run(round: &Round, desk: &mut Desk) -> Result<Outcome, Refusal>
     ensures rows { desk.new.rows.now ≡ laid result (rows_found (tables_of round.now)) desk.old.rows.now }
     ensures results { desk.new.results.now ≡ laid result (table (told (market (tables_of round.now))) (applicants (tables_of round.now))) desk.old.results.now }
     ensures benches { desk.new.benches.now ≡ laid result (benches_of (tables_of round.now)) desk.old.benches.now }
-    ensures same_rows { desk.new.rows.ghost_name ≡ desk.old.rows.ghost_name }
-    ensures same_results { desk.new.results.ghost_name ≡ desk.old.results.ghost_name }
-    ensures same_benches { desk.new.benches.ghost_name ≡ desk.old.benches.ghost_name }
+    ensures same { SameSlices desk.old desk.new }
     ensures fair { Fair (tables_of round.now) }
 {
     desk.left().room(round)?;
-    let rows = &mut *desk.rows;
-    let results = &mut *desk.results;
-    let benches = &mut *desk.benches;
-    points::find_rows(round, rows)?;
+    points::find_rows(round, desk.rows)?;
     let seats = round.seats[round.seats.len() - 1] as usize;
-    results[0..round.lots.len()].fill(0);
-    benches[0..seats].fill(u32::MAX);
-    let asks = ask_all(round, rows, results, benches);
-    let placed = tell(round, results);
+    desk.results[0..round.lots.len()].fill(0);
+    desk.benches[0..seats].fill(u32::MAX);
+    let asks = ask_all(round, desk);
+    let placed = tell(round, desk.results);
     Ok(Outcome { asks, placed })
 }
 
-// What an ask comes to: nobody has to ask on, or this applicant has.
-#[derive(Clone, Copy)]
-enum Turn {
-    Settled,
-    Asks(usize),
-}
-
 // Lets all ask, one after the other: each applicant in its turn, and whoever is turned down for it. The number of asks.
-fn ask_all(round: &Round, rows: &[u32], results: &mut [u16], benches: &mut [u32]) -> usize
-    requires found { take (length (tables_of round.now).entries) rows.now ≡ rows_found (tables_of round.now) }
-    requires asking { Asking (tables_of round.now) (at_rest (tables_of round.now) results.old) results.old benches.old }
-    requires fresh { (c : ℕ) → c < applicants (tables_of round.now) → slice_index results.old c ≡ 0 }
-    ensures { Resting (tables_of round.now) results.new benches.new results.old benches.old (applicants (tables_of round.now)) result }
+fn ask_all(round: &Round, desk: &mut Desk) -> usize
+    requires found { take (length (tables_of round.now).entries) desk.old.rows.now ≡ rows_found (tables_of round.now) }
+    requires asking { Asking (tables_of round.now) (at_rest (tables_of round.now) desk.old.results.now) desk.old.results.now desk.old.benches.now }
+    requires fresh { (c : ℕ) → c < applicants (tables_of round.now) → slice_index desk.old.results.now c ≡ 0 }
+    ensures rested { Resting (tables_of round.now) desk.new.results.now desk.new.benches.now desk.old.results.now desk.old.benches.now (applicants (tables_of round.now)) result }
+    ensures rows { desk.new.rows.now ≡ desk.old.rows.now }
+    ensures same { SameSlices desk.old desk.new }
 {
-    let mut asks: usize = 0;
+    let mut asks = 0;
     'applicants: for a in 0..round.lots.len() {
         let mut asker = a;
-        while (results[asker] as usize) < list_len(round, asker) {
+        while usize::from(desk.results[asker]) < list_len(round, asker) {
             asks += 1;
-            match ask_next(round, rows, results, benches, asker) {
-                Turn::Settled => continue 'applicants,
-                Turn::Asks(other) => asker = other,
-            }
+            let Some(other) = ask_next(round, desk, asker) else {
+                continue 'applicants;
+            };
+            asker = other;
         }
-        results[asker] += 1;
+        desk.results[asker] += 1;
     }
     asks
 }
@@ -134,33 +124,33 @@ fn list_len(round: &Round, applicant: usize) -> usize
     (round.starts[applicant + 1] - round.starts[applicant]) as usize
 }
 
-// The applicant asks the next workshop of its list.
-fn ask_next(
-    round: &Round,
-    rows: &[u32],
-    results: &mut [u16],
-    benches: &mut [u32],
-    asker: usize,
-) -> Turn
+// The applicant asks the next workshop of its list. Who has to ask on then, if anybody has.
+fn ask_next(round: &Round, desk: &mut Desk, asker: usize) -> Option<usize>
     requires applicant { asker < applicants (tables_of round.now) }
-    requires entry { slice_index results.old asker < list_length (tables_of round.now) asker }
-    requires found { take (length (tables_of round.now).entries) rows.now ≡ rows_found (tables_of round.now) }
-    requires asking { Asking (tables_of round.now) (but_for (tables_of round.now) results.old asker) results.old benches.old }
-    ensures results { results.new ≡ one_more results.old asker }
-    ensures after { After (tables_of round.now) result results.new benches.new }
-    ensures behind { drop (slice_index (tables_of round.now).seats (workshops (tables_of round.now))) benches.new ≡ drop (slice_index (tables_of round.now).seats (workshops (tables_of round.now))) benches.old }
+    requires entry { slice_index desk.old.results.now asker < list_length (tables_of round.now) asker }
+    requires found { take (length (tables_of round.now).entries) desk.old.rows.now ≡ rows_found (tables_of round.now) }
+    requires asking { Asking (tables_of round.now) (but_for (tables_of round.now) desk.old.results.now asker) desk.old.results.now desk.old.benches.now }
+    ensures results { desk.new.results.now ≡ one_more desk.old.results.now asker }
+    ensures after { After (tables_of round.now) result desk.new.results.now desk.new.benches.now }
+    ensures behind { drop (slice_index (tables_of round.now).seats (workshops (tables_of round.now))) desk.new.benches.now ≡ drop (slice_index (tables_of round.now).seats (workshops (tables_of round.now))) desk.old.benches.now }
+    ensures rows { desk.new.rows.now ≡ desk.old.rows.now }
+    ensures same { SameSlices desk.old desk.new }
 {
-    let at = round.starts[asker] as usize + results[asker] as usize;
-    let workshop = round.entries[at] as usize;
+    let at = round.starts[asker] as usize + usize::from(desk.results[asker]);
+    let workshop = usize::from(round.entries[at]);
     let from = round.seats[workshop] as usize;
     let to = round.seats[workshop + 1] as usize;
-    results[asker] += 1;
-    match bench::ask(&mut benches[from..to], round, rows[at]) {
-        Answer::Kept => Turn::Settled,
-        Answer::Displaced(row) => Turn::Asks(round.row_applicants[row as usize] as usize),
-        Answer::TurnedDown => Turn::Asks(asker),
+    desk.results[asker] += 1;
+    let row = desk.rows[at];
+    match bench::ask(&mut desk.benches[from..to], round, row) {
+        Answer::Kept => None,
+        Answer::Displaced(row) => Some(usize::from(round.row_applicants[row as usize])),
+        Answer::TurnedDown => Some(asker),
     }
 }
+
+// What an applicant is told who has no place.
+const NO_PLACE: u16 = 255;
 
 // Writes over how many entries each has asked what it is told: the position of the last of them, or 255 where its list is used up. How
 // many have a place.
