@@ -1,9 +1,10 @@
 // Cuts: what an applicant needs to get into a workshop, read off the workshop's bench, and whether somebody reaches it.
 #![tactic(auto)]
 
-ghost use Rattle.std.specs.Prelude.{◌≡◌};
+ghost use Rattle.std.specs.Prelude.{◌≡◌, Some};
 ghost use Rattle.codec.specs.Rounds.{tables_of};
 ghost use Rattle.cuts.specs.Cuts.{cut_of_bench, reached};
+ghost use Rattle.cuts.specs.Words.{cut_words};
 
 mod laws;
 
@@ -11,6 +12,7 @@ use codec::Round;
 pub use laws::{cuts_defined, told_by_cuts};
 use layout::{Lot, Points};
 use points::{goes_ahead, standing};
+use std::fmt;
 
 // What it took to get into a workshop: with places left, points above 0; with no places at all, nothing suffices; in a full one,
 // the points and the lot of the last it keeps.
@@ -19,6 +21,19 @@ pub enum Cut {
     Open,
     Shut,
     Full(Points, Lot),
+}
+
+// A cut in words: `30 lot 2`, `open` or `shut`.
+impl fmt::Display for Cut {
+    ghost output = { λ cut. Some (cut_words cut) };
+
+    fn fmt<W: fmt::Write>(&self, f: &mut fmt::Formatter<W>) -> fmt::Result {
+        match self {
+            Cut::Open => write!(f, "open"),
+            Cut::Shut => write!(f, "shut"),
+            Cut::Full(Points(points), Lot(lot)) => write!(f, "{points} lot {lot}"),
+        }
+    }
 }
 
 // The cut of the workshop with this bench.

@@ -7,7 +7,7 @@ use Rattle.layout.specs.declared.Refusal.{Refusal}
 use Rattle.round.specs.Market.{Market, final, placed_at, got, asks, placed}
 use Rattle.points.specs.Standing.{market}
 use Rattle.cuts.specs.declared.Cut.{Cut}
-use Rattle.cuts.specs.declared.Cut.TheVariants.{Open, Shut, Full}
+use Rattle.cuts.specs.Words.{cut_words}
 use Rattle.cuts.specs.Promised.{cut_at}
 
 abbrev pub newline : List ℕ
@@ -34,18 +34,9 @@ none_line a = codes "applicant " ++ (decimal a ++ (codes " none" ++ newline))
 unfoldable pub applicant_line : Market → ℕ → List ℕ
 applicant_line k a = cond (placed_at k (final k) a) (placed_line a (got k a) (final k a + 1)) (none_line a)
 
--- a cut: 30 lot 2, open, or shut
-unfoldable pub full_words : ℕ → ℕ → List ℕ
-full_words points lot = decimal points ++ (codes " lot " ++ decimal lot)
-
-abbrev pub cut_words : Cut → List ℕ
-cut_words Open = codes "open"
-cut_words Shut = codes "shut"
-cut_words (Full points lot) = full_words points.0 lot.0
-
 -- cut 0 30 lot 2
 unfoldable pub cut_line : ℕ → Cut → List ℕ
-cut_line w c = (codes "cut " ++ (decimal w ++ codes " ")) ++ (cut_words c ++ newline)
+cut_line w c = codes "cut " ++ (decimal w ++ (codes " " ++ (cut_words c ++ newline)))
 
 -- all that is printed of a round: the head, a line for each applicant, a line for each workshop
 unfoldable pub text_of : Tables → List ℕ

@@ -6,23 +6,22 @@ use Rattle.layout.specs.declared.Refusal.{Refusal}
 use Rattle.letters.specs.Letter.{count_in, place_at, part_at, entry_in}
 use Rattle.letters.specs.Faults.{letter_fault, place_fault, reached_in}
 use Rattle.letters.specs.declared.entry.Entry.{Entry}
-use Rattle.texts.specs.Text.{newline, cut_words}
+use Rattle.cuts.specs.Words.{cut_words}
+use Rattle.texts.specs.Text.{newline}
 
 -- applicant 0 lot 1
 unfoldable pub whose_line : ℕ → ℕ → List ℕ
 whose_line a lot = codes "applicant " ++ (decimal a ++ (codes " lot " ++ (decimal lot ++ newline)))
 
--- wish 1 workshop 0 points 10 cut 30 lot 2 not reached; wishes count from 1
-unfoldable pub listed_words : ℕ → ℕ → ℕ → List ℕ
-listed_words wish w points =
-    codes "wish " ++ (decimal wish ++ (codes " workshop " ++ (decimal w ++ (codes " points " ++ (decimal points ++ codes " cut ")))))
-
+-- whether a cut is reached
 abbrev pub reached_words : Bool → List ℕ
 reached_words true = codes " reached" ++ newline
 reached_words false = codes " not reached" ++ newline
 
+-- wish 1 workshop 0 points 10 cut 30 lot 2 not reached; wishes count from 1
 unfoldable pub wish_line : ℕ → Entry → Bool → List ℕ
-wish_line wish e reached = listed_words wish e.workshop e.points.0 ++ (cut_words e.cut ++ reached_words reached)
+wish_line wish e reached =
+    codes "wish " ++ (decimal wish ++ (codes " workshop " ++ (decimal e.workshop ++ (codes " points " ++ (decimal e.points.0 ++ (codes " cut " ++ (cut_words e.cut ++ reached_words reached)))))))
 
 -- got wish 2 workshop 1, or got none
 unfoldable pub got_line : ℕ → ℕ → List ℕ

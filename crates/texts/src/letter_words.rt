@@ -5,27 +5,21 @@ ghost use Rattle.layout.specs.Slices.{flat};
 ghost use Rattle.letters.specs.Faults.{letter_fault, verdict_in};
 ghost use Rattle.letters.specs.Letter.{count_in, place_at, place_told};
 ghost use Rattle.texts.specs.Faults.{Faulty};
-ghost use Rattle.texts.specs.Words.{fault_in_letter, entry_line, place_line, words_of};
+ghost use Rattle.texts.specs.Words.{fault_in_letter, wish_line, entry_line, place_line, words_of};
 
 use crate::fault::Fault;
-use crate::wishes::{push_got, push_whose, push_wish};
 use cuts::reaches;
-use layout::Lot;
-use letters::{Verdict, check_letter, entry_at};
+use layout::{Lot, Points};
+use letters::{Entry, Verdict, check_letter, entry_at};
 use std::alloc::{AllocError, Global};
 
 // What a letter says, in words, with `accepted` as the last line; or why it is refused.
 pub fn explain(heap: Global, letter: &[u8]) -> Result<String, Fault>
     ensures { MatchResult result (λ s. (fault_in_letter letter.now ≡ None) × (string_bytes s ≡ words_of letter.now)) (Faulty (fault_in_letter letter.now)) }
 {
-    let verdict = match check_letter(letter) {
-        Ok(verdict) => verdict,
-        Err(e) => return Err(Fault::Refused(e)),
-    };
-    match in_words(heap, letter, verdict) {
-        Ok(text) => Ok(text),
-        Err(_) => Err(Fault::NoMemory),
-    }
+    let verdict = check_letter(letter)?;
+    let text = in_words(heap, letter, verdict)?;
+    Ok(text)
 }
 
 // The words of a letter that was found right.
@@ -40,11 +34,12 @@ fn in_words(heap: Global, letter: &[u8], verdict: Verdict) -> Result<String, All
         entries,
         place,
     } = verdict;
+    let Lot(number) = lot;
     let mut text = String::new(heap);
-    push_whose(&mut text, applicant, lot.0)?;
+    writeln!(text, "applicant {applicant} lot {number}")?;
     push_wishes(&mut text, letter, lot, entries)?;
     push_place(&mut text, letter, place)?;
-    text.push_str("accepted\n")?;
+    writeln!(text, "accepted")?;
     Ok(text)
 }
 
@@ -56,27 +51,37 @@ fn push_wishes(text: &mut String, letter: &[u8], lot: Lot, entries: usize) -> Re
     ensures { OnOk result (string_bytes text.new ≡ string_bytes text.old ++ flat (entry_line letter.now) (count_in letter.now)) }
 {
     for j in 0..entries {
-        match push_entry(text, letter, lot, j) {
-            Ok(()) => {}
-            Err(e) => return Err(e),
-        }
+        push_entry(text, letter, lot, j)?;
     }
     Ok(())
 }
 
-// The line of one wish.
+// Reads one wish, and puts its line behind the text.
 fn push_entry(text: &mut String, letter: &[u8], lot: Lot, j: usize) -> Result<(), AllocError>
     requires whole { letter_fault letter.now ≡ None }
     requires lot { lot.0 ≡ word letter.now 2 }
     requires within { j < count_in letter.now }
     ensures { OnOk result (string_bytes text.new ≡ string_bytes text.old ++ entry_line letter.now j) }
 {
-    let Some(entry) = entry_at(letter, j) else {
-        unreachable()
-    };
+    let entry = entry_at(letter, j).unwrap();
     let reached = reaches(entry.points, lot, entry.cut);
-    push_wish(text, j + 1, entry, reached)?;
-    Ok(())
+    push_wish(text, j + 1, entry, reached)
+}
+
+// The line of one wish: the workshop, the own points there, the cut, and whether it is reached.
+fn push_wish(text: &mut String, wish: usize, entry: Entry, reached: bool) -> Result<(), AllocError>
+    ensures { OnOk result (string_bytes text.new ≡ string_bytes text.old ++ wish_line wish entry reached) }
+{
+    let Entry {
+        workshop,
+        points: Points(points),
+        cut,
+    } = entry;
+    let reached = if reached { "reached" } else { "not reached" };
+    writeln!(
+        text,
+        "wish {wish} workshop {workshop} points {points} cut {cut} {reached}"
+    )
 }
 
 // What was got.
@@ -86,12 +91,9 @@ fn push_place(text: &mut String, letter: &[u8], place: Option<usize>) -> Result<
     ensures { OnOk result (string_bytes text.new ≡ string_bytes text.old ++ place_line letter.now) }
 {
     let Some(place) = place else {
-        text.push_str("got none\n")?;
-        return Ok(());
+        return writeln!(text, "got none");
     };
-    let Some(entry) = entry_at(letter, place) else {
-        unreachable()
-    };
-    push_got(text, place + 1, entry.workshop)?;
-    Ok(())
+    let Entry { workshop, .. } = entry_at(letter, place).unwrap();
+    let wish = place + 1;
+    writeln!(text, "got wish {wish} workshop {workshop}")
 }

@@ -1,4 +1,4 @@
-// The printed texts.
+// A refusal in words.
 ghost use Rattle.std.specs.Prelude.{◌≡◌, IfOk, string_bytes};
 ghost use Rattle.texts.specs.Text.{refusal_line};
 

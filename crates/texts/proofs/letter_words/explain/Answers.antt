@@ -1,4 +1,5 @@
 use Rattle.std.proofs.Common.{sym, ◌∙◌}
+use Rattle.std.proofs.lemmas.Result.{err_from_is_err_and}
 use Rattle.layout.specs.Slices.{or_else}
 use Rattle.layout.proofs.Firsts.{or_else_none}
 use Rattle.letters.specs.Faults.{letter_fault, place_fault, verdict_in}
@@ -11,19 +12,20 @@ pub in_words-requires : goal.in_words-requires
 unfolding judged_bytes
 in_words-requires c =
     let b = c.args.letter.now in
-    let right = none_from_ok (or_else (letter_fault b) (place_fault b)) (verdict_in b) c.in-Ok.verdict (sym c.in-Ok.is ∙ c.check_letter.ensures.told) in
+    let right = none_from_ok (or_else (letter_fault b) (place_fault b)) (verdict_in b) c.in_ok-verdict.verdict (sym c.in_ok-verdict.was ∙ c.check_letter.ensures.told) in
     record { whole = (or_else_none (letter_fault b) (place_fault b) right.0).0; read = right.1 }
 
-pub returns-in-Err : goal.returns-in-Err
+pub returns-in_err-verdict : goal.returns-in_err-verdict
 unfolding fault_in_letter judged_bytes
-returns-in-Err c =
-    some_from_err (fault_in_letter c.args.letter.now) (verdict_in c.args.letter.now) c.in-Err.e
-    (sym c.in-Err.is ∙ c.check_letter.ensures.told)
+returns-in_err-verdict c =
+    let p = err_from_is_err_and c.from_residual.result c.from_residual.ensures.1 in
+    rw (p.1, p.2) (some_from_err (fault_in_letter c.args.letter.now) (verdict_in c.args.letter.now) c.in_err-verdict.field-0.0
+    (sym c.in_err-verdict.was ∙ c.check_letter.ensures.told))
 
-pub returns-in-Ok-in_words : goal.returns-in-Ok-in_words
+pub returns : goal.returns
 unfolding fault_in_letter judged_bytes
-returns-in-Ok-in_words c = (
-  (none_from_ok (fault_in_letter c.args.letter.now) (verdict_in c.args.letter.now) c.in-Ok.verdict
-      (sym c.in-Ok.is ∙ c.check_letter.ensures.told)).0,
-  c.in-Ok-in_words.ensures,
+returns c = (
+  (none_from_ok (fault_in_letter c.args.letter.now) (verdict_in c.args.letter.now) c.in_ok-verdict.verdict
+      (sym c.in_ok-verdict.was ∙ c.check_letter.ensures.told)).0,
+  c.in_ok-text.ensures,
 )

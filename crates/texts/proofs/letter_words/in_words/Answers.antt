@@ -5,9 +5,9 @@ use Rattle.texts.proofs.Appends.{four_parts}
 use Rattle.texts.proofs.letter_words.in_words.Goals as goal
 
 pub returns : goal.returns
-unfolding words_of accepted_line
+unfolding words_of accepted_line whose_line
 returns c =
     four_parts _ _ _ _ _ _ _ _ _ _ c.new-text.ensures.bytes
     (ap (λ (v : Verdict). whose_line v.applicant v.lot.0) c.requires.read)
-    c.in_ok-push_whose.ensures c.in_ok-push_wishes.ensures
-    c.in_ok-push_place.ensures c.in_ok-push_str.ensures.bytes
+    c.in_ok-writeln.ensures.bytes c.in_ok-push_wishes.ensures
+    c.in_ok-push_place.ensures c.in_ok-writeln-2.ensures.bytes

@@ -1,23 +1,21 @@
-use Rattle.std.proofs.Common.{◌≡◌, ℕ, List, ◌++◌, string_bytes, sym, ap, ◌∙◌, arith}
-use Rattle.texts.specs.Words.{got_none_line}
+use Rattle.std.proofs.Common.{sym, ◌∙◌}
+use Rattle.texts.specs.Words.{got_line, got_none_line}
 use Rattle.texts.proofs.Entries.{got_whole, line_of_none, line_of_place}
 use Rattle.texts.proofs.letter_words.push_place.Goals as goal
 
 pub returns-in_default : goal.returns-in_default
 unfolding got_none_line
 returns-in_default c =
-    let line = line_of_none c.args.letter.now (sym c.in_default.is ∙ c.requires.place) in
-    c.in_ok-push_str.ensures.bytes ∙ ap (λ (x : List ℕ). string_bytes c.args.text.now ++ x) line
+    let line = line_of_none c.args.letter.now (sym c.in_default.is ∙ c.requires.place) in rw (← line) c.writeln.ensures.bytes
 
-pub unreachable-requires : goal.unreachable-requires
-unreachable-requires c =
-    let there = got_whole c.args.letter.now c.requires.whole c.in-Some.place (sym c.in-Some.is ∙ c.requires.place) in
-    let z : ◌≡◌ {A = ℕ} 0 1 = cc in
-    omega arith
+pub unwrap-workshop-requires : goal.unwrap-workshop-requires
+unwrap-workshop-requires c =
+    let there = got_whole c.args.letter.now c.requires.whole c.in-Some.place (sym c.in-Some.is ∙ c.requires.place) in rw (c.entry_at.ensures, there)
 
 pub returns : goal.returns
+unfolding got_line
 returns c =
     let told = sym c.in-Some.is ∙ c.requires.place in
     let there = got_whole c.args.letter.now c.requires.whole c.in-Some.place told in
-    let line = line_of_place c.args.letter.now c.in-Some.place told c.in-Some-entry_at.entry (sym c.in-Some-entry_at.is ∙ c.entry_at.ensures ∙ there) in
-    c.in_ok-push_got.ensures ∙ ap (λ (x : List ℕ). string_bytes c.args.text.now ++ x) line
+    let line = line_of_place c.args.letter.now c.in-Some.place told c.unwrap-workshop.result (sym c.unwrap-workshop.ensures ∙ c.entry_at.ensures ∙ there) in
+    rw (← line) c.writeln-2.ensures.bytes

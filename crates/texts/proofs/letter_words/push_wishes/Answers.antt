@@ -5,4 +5,4 @@ pub loop-j-init : goal.loop-j-init
 loop-j-init c = lines_none _ _
 
 pub loop-j-preserved : goal.loop-j-preserved
-loop-j-preserved c = lines_more _ _ _ _ c.loop-j.j c.loop-j.invariant c.in-Ok.ensures
+loop-j-preserved c = lines_more _ _ _ _ c.loop-j.j c.loop-j.invariant c.in_ok-push_entry.ensures
