@@ -19,10 +19,7 @@ alone, and the status is 1.
 fn check_one(rt: &HostRuntime, file: &str) -> Result<(), Failed> {
     let bytes = console::input(rt, file)?;
     match texts::explain(rt.alloc(), &bytes) {
-        Ok(text) => {
-            print!(rt; "{text}")?;
-            Ok(())
-        }
+        Ok(text) => Ok(print!(rt; "{text}")?),
         Err(Fault::Refused(refusal)) => console::tell_refusal(rt, refusal),
         Err(Fault::NoMemory) => Err(Failed::NoMemory),
     }
@@ -30,21 +27,13 @@ fn check_one(rt: &HostRuntime, file: &str) -> Result<(), Failed> {
 
 // What the arguments ask for.
 fn run(rt: &HostRuntime) -> Result<(), Failed> {
-    let mut args = env::args(rt)?;
-    let _ = args.next();
-    let file = args.next();
-    if args.next().is_some() {
-        eprint!(rt; "{USAGE}")?;
-        return Err(Failed::Told);
+    let args: Vec<String> = env::args(rt)?.skip(1).collect(rt.alloc())?;
+    match args.as_slice() {
+        [] => check_one(rt, "-"),
+        [flag] if console::is_help(flag) => Ok(print!(rt; "{USAGE}")?),
+        [file] => check_one(rt, file),
+        _ => Err(Failed::Usage(USAGE)),
     }
-    let Some(file) = file else {
-        return check_one(rt, "-");
-    };
-    if file.as_str() == "--help" || file.as_str() == "-h" {
-        print!(rt; "{USAGE}")?;
-        return Ok(());
-    }
-    check_one(rt, file.as_str())
 }
 
 fn main(rt: HostRuntime) -> ExitCode {

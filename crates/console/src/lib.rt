@@ -2,7 +2,7 @@
 // is made and proved in the crates `texts` and `office`; no contract can say what a program reads or prints.
 #![tactic(auto)]
 
-ghost use Rattle.std.specs.Prelude.{◌≡◌, false, is_ok, IfOk, Ok, if◌then◌else◌};
+ghost use Rattle.std.specs.Prelude.{◌≡◌, ◌↔◌, ◌⊎◌, IsTrue, codes, false, is_ok, IfOk, Ok, if◌then◌else◌};
 ghost use Rattle.std.specs.Process.{exit_status};
 ghost use Rattle.layout.specs.Bytes.{decode};
 ghost use Rattle.office.specs.Settling.{tables_settled};
@@ -15,10 +15,12 @@ use std::process::ExitCode;
 use std::{fs, io};
 use texts::Fault;
 
-// Why a program ends with status 1: what there was to say has been said, there was no memory, or nothing more could be printed.
+// Why a program ends with status 1: what there was to say has been said, the arguments are not as the usage here has them, there was
+// no memory, or nothing more could be printed.
 #[derive(Clone, Copy, Debug)]
 pub enum Failed {
     Told,
+    Usage(&'static str),
     NoMemory,
     NoOutput,
 }
@@ -33,6 +35,13 @@ impl From<AllocError> for Failed {
     fn from(_: AllocError) -> Failed {
         Failed::NoMemory
     }
+}
+
+// Whether an argument asks for the usage.
+pub fn is_help(argument: &str) -> bool
+    ensures { IsTrue result ↔ (argument.now ≡ codes "--help") ⊎ (argument.now ≡ codes "-h") }
+{
+    matches!(argument, "--help" | "-h")
 }
 
 // All of standard input.
@@ -52,13 +61,10 @@ fn bytes_of(rt: &HostRuntime, file: &str) -> io::Result<Vec<u8>> {
 
 // The bytes of the file, or of standard input for `-`; where they cannot be had, one line that names the file.
 pub fn input(rt: &HostRuntime, file: &str) -> Result<Vec<u8>, Failed> {
-    match bytes_of(rt, file) {
-        Ok(bytes) => Ok(bytes),
-        Err(e) => {
-            eprintln!(rt; "cannot read {file}: {e}")?;
-            Err(Failed::Told)
-        }
-    }
+    bytes_of(rt, file).or_else(|e| {
+        eprintln!(rt; "cannot read {file}: {e}")?;
+        Err(Failed::Told)
+    })
 }
 
 // Prints a refusal, alone, and fails.
@@ -92,8 +98,10 @@ pub fn settle_and_tell(rt: &HostRuntime, bytes: &[u8]) -> Result<Settled, Failed
 pub fn finish(rt: &HostRuntime, done: Result<(), Failed>) -> Result<(), Failed>
     ensures { is_ok result ≡ is_ok done }
 {
-    if let Err(Failed::NoMemory) = done {
-        eprintln!(rt; "out of memory")?;
+    match done {
+        Err(Failed::NoMemory) => eprintln!(rt; "out of memory")?,
+        Err(Failed::Usage(usage)) => eprint!(rt; "{usage}")?,
+        Ok(()) | Err(Failed::Told | Failed::NoOutput) => {}
     }
     done
 }

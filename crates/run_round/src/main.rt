@@ -53,24 +53,13 @@ fn settle_round(rt: &HostRuntime, file: &str, letters: Option<&str>) -> Result<(
 
 // What the arguments ask for.
 fn run(rt: &HostRuntime) -> Result<(), Failed> {
-    let mut args = env::args(rt)?;
-    let _ = args.next();
-    let file = args.next();
-    let dir = args.next();
-    if args.next().is_some() {
-        eprint!(rt; "{USAGE}")?;
-        return Err(Failed::Told);
-    }
-    let Some(file) = file else {
-        return settle_round(rt, "-", None);
-    };
-    if file.as_str() == "--help" || file.as_str() == "-h" {
-        print!(rt; "{USAGE}")?;
-        return Ok(());
-    }
-    match dir {
-        Some(dir) => settle_round(rt, file.as_str(), Some(dir.as_str())),
-        None => settle_round(rt, file.as_str(), None),
+    let args: Vec<String> = env::args(rt)?.skip(1).collect(rt.alloc())?;
+    match args.as_slice() {
+        [] => settle_round(rt, "-", None),
+        [flag] | [flag, _] if console::is_help(flag) => Ok(print!(rt; "{USAGE}")?),
+        [file] => settle_round(rt, file, None),
+        [file, dir] => settle_round(rt, file, Some(dir)),
+        _ => Err(Failed::Usage(USAGE)),
     }
 }
 

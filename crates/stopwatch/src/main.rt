@@ -38,20 +38,14 @@ fn measure(rt: &HostRuntime, file: &str, turns: u32) -> Result<(), Failed> {
     Ok(())
 }
 
+// What the arguments ask for.
 fn run(rt: &HostRuntime) -> Result<(), Failed> {
-    let mut args = env::args(rt)?;
-    let _ = args.next();
-    let (Some(file), Some(turns)) = (args.next(), args.next()) else {
-        print!(rt; "{USAGE}")?;
-        return Ok(());
+    let args: Vec<String> = env::args(rt)?.skip(1).collect(rt.alloc())?;
+    let [file, turns, ..] = args.as_slice() else {
+        return Ok(print!(rt; "{USAGE}")?);
     };
-    match turns.parse::<u32>() {
-        Ok(turns) => measure(rt, file.as_str(), turns),
-        Err(_) => {
-            eprint!(rt; "{USAGE}")?;
-            Err(Failed::Told)
-        }
-    }
+    let turns = turns.parse::<u32>().map_err(|_| Failed::Usage(USAGE))?;
+    measure(rt, file, turns)
 }
 
 fn main(rt: HostRuntime) -> ExitCode {

@@ -20,7 +20,7 @@ fn accepted(heap: Global, settled: &Settled) -> Result<usize, Failed> {
     let mut number = 0usize;
     for a in 0..settled.applicants() {
         match texts::explain(heap, settled.letter(a)) {
-            Ok(_) => number = number.saturating_add(1),
+            Ok(_) => number += 1,
             Err(Fault::Refused(_)) => {}
             Err(Fault::NoMemory) => return Err(Failed::NoMemory),
         }
@@ -45,21 +45,17 @@ fn show_round(rt: &HostRuntime, file: &str) -> Result<(), Failed> {
 
 // What the arguments ask for.
 fn run(rt: &HostRuntime) -> Result<(), Failed> {
-    let mut args = env::args(rt)?;
-    let _ = args.next();
-    let Some(first) = args.next() else {
-        eprint!(rt; "{USAGE}")?;
-        return Err(Failed::Told);
-    };
-    if first.as_str() == "--help" || first.as_str() == "-h" {
-        print!(rt; "{USAGE}")?;
-        return Ok(());
+    let files: Vec<String> = env::args(rt)?.skip(1).collect(rt.alloc())?;
+    match files.as_slice() {
+        [] => Err(Failed::Usage(USAGE)),
+        [flag, ..] if console::is_help(flag) => Ok(print!(rt; "{USAGE}")?),
+        files => {
+            for file in files {
+                show_round(rt, file)?;
+            }
+            Ok(())
+        }
     }
-    show_round(rt, first.as_str())?;
-    for file in args {
-        show_round(rt, file.as_str())?;
-    }
-    Ok(())
 }
 
 fn main(rt: HostRuntime) -> ExitCode {
