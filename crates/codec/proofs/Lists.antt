@@ -1,5 +1,5 @@
 -- The list of a record, judged by its place: the same as judged by the applicant.
-use Rattle.std.proofs.Common.{◌≡◌, ℕ, zero, suc, ◌+◌, ◌<◌, ◌≤◌, Bool, true, false, ◌||◌, eqb, List, length, get_or, set, replicate, Some, None, Err, Result, refl, ap, add-one, arith}
+use Rattle.std.proofs.Common.{◌≡◌, ℕ, zero, suc, ◌+◌, ◌<◌, ◌≤◌, Bool, true, false, ◌||◌, eqb, List, length, get_or, set, replicate, Some, None, Err, Result, refl, ap, ◌∙◌, add-one, arith}
 use mathlib.Core.Path.{fun_ext}
 use Rattle.std.proofs.lemmas.List.{get_or-replicate, get_or-set_same, get_or-set_other}
 use Rattle.std.proofs.lemmas.Bool.{cases_eq}
@@ -8,7 +8,9 @@ use Rattle.layout.specs.Slices.{outcome, or_else}
 use Rattle.layout.specs.Bytes.{byte, word, first_of, record_at, workshops_in, missing, refuse, entry_in, entry_seen, entry_fault, lot_in, lot_seen, record_fault}
 use Rattle.layout.specs.declared.Refusal.{Refusal}
 use Rattle.layout.specs.declared.Refusal.TheVariants.{Short, LotTaken}
-use Rattle.codec.specs.Readers.{stands_in, entry_fault_at, list_fault_at, record_fault_at}
+use Rattle.codec.specs.declared.bytes.Reader.{Reader}
+use Rattle.codec.specs.Readers.{Stands, there, stands_in, entry_fault_at, list_fault_at, record_fault_at}
+use Rattle.codec.proofs.Firsts.{got_there}
 use Rattle.layout.proofs.Firsts.{first_of_at}
 use Rattle.layout.proofs.Offsets.{record_at_more}
 
@@ -39,10 +41,13 @@ module _ (b : List ℕ) (a : ℕ) where
   pub record_short : length b < record_at b a + 2 → record_fault b a ≡ Some (Short (length b))
   record_short l = rw record_fault_is grind (arith, nat_tests)
 
-  -- by an array of flags that says which lots the applicants before a have
-  pub record_by_flags : (m lot : ℕ) (seen : List Bool) → m ≡ workshops_in b → record_at b a + 2 ≤ length b → lot ≡ lot_in b a → lot < 65536 →
+  -- by the lot that was read, and an array of flags that says which lots the applicants before a have
+  pub record_by_flags : {r : Reader} {m x lot : ℕ} (seen : List Bool) → Stands r b (record_at b a) → m ≡ workshops_in b →
+      Some x ≡ there r.bytes.now r.at 2 (word r.bytes.now r.at) → lot ≡ x → lot < 65536 →
       ((v : ℕ) → v < 65536 → get_or seen v false ≡ lot_seen b v a) → record_fault b a ≡ record_fault_at b m (get_or seen lot false) (record_at b a)
-  record_by_flags m lot seen em l e k h = rw (record_fault_is, em, h lot k, e) (grind (arith, nat_tests))
+  record_by_flags seen s em l ex k h =
+      let g = got_there _ _ _ _ _ (rw (s.same, s.place) at l) in
+      rw (record_fault_is, em, h _ k, ex ∙ g.1) (grind (arith, nat_tests))
 
   -- where the next record begins
   pub record_after : (at : ℕ) → at ≡ record_at b a → record_at b (a + 1) ≡ at + 3 + byte b (at + 2)

@@ -1,9 +1,9 @@
 // The judging of the bytes of a round: the parts of the format in the order in which they stand, and in each the first fault. Nothing
 // is written.
-ghost use Rattle.std.specs.Prelude.{◌≡◌, ℕ, ◌+◌, ◌*◌, length, false, slice_index_or, slice_set, OnOk};
+ghost use Rattle.std.specs.Prelude.{◌≡◌, ◌+◌, ◌*◌, OnOk};
 ghost use Rattle.layout.specs.Slices.{outcome};
 ghost use Rattle.layout.specs.Bytes.{byte, word, first_of, head_fault, places_from, places_fault, applicants_in, workshops_in, record_at, record_fault, row_at, row_fault, fault, sizes_in};
-ghost use Rattle.codec.specs.Readers.{Stands, list_fault_at, record_fault_at, count_fault_at, row_fault_at};
+ghost use Rattle.codec.specs.Readers.{Stands, list_fault_at, count_fault_at, row_fault_at};
 
 use crate::bytes::Reader;
 use crate::limits::{
