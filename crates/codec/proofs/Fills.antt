@@ -1,12 +1,22 @@
 -- Where the filling of the tables reads and writes: within the bytes and within the slices, since the bytes have no fault.
-use Rattle.std.proofs.Common.{◌≡◌, ℕ, ◌+◌, ◌<◌, ◌≤◌, List, length, None, sym, ap, ◌∙◌, arith}
+use Rattle.std.proofs.Common.{◌≡◌, ℕ, ◌+◌, ◌-◌, ◌<◌, ◌≤◌, List, length, get_or, take, drop, None, sym, ap, ◌∙◌, arith}
+use Rattle.std.proofs.lemmas.List.{get_or-take, get_or-drop, length-take-le, length-drop}
 use Rattle.layout.specs.Slices.{over, table}
 use Rattle.layout.specs.Bytes.{byte, applicants_in, record_at, count_in, entry_in, start_of, entries_below, fault}
 use Rattle.layout.proofs.Clean.{clean_from_none}
-use Rattle.layout.proofs.Flats.{flat_more}
+use Rattle.layout.proofs.Flats.{flat_more, is_table}
 use Rattle.layout.proofs.Offsets.{record_at_more, record_at_mono, start_of_more, start_of_mono, length_entries_below}
 use Rattle.codec.specs.Puts.{put}
 use Rattle.codec.proofs.Puts.{put_over}
+
+-- a part of the bytes: each byte, and all of them
+pub part_byte : (b : List ℕ) (p e j : ℕ) → j < e - p → get_or (take (e - p) (drop p b)) j 0 ≡ byte b (p + j)
+part_byte b p e j l = get_or-take (e - p) (drop p b) j 0 l ∙ get_or-drop p b j 0
+
+pub part_bytes : (b : List ℕ) (p e n : ℕ) → p + n ≡ e → e ≤ length b → take (e - p) (drop p b) ≡ table (λ (j : ℕ). byte b (p + j)) n
+part_bytes b p e n h l =
+    let len = length-take-le (e - p) (drop p b) (omega (arith, length-drop p b)) in
+    is_table (λ (j : ℕ). byte b (p + j)) (take (e - p) (drop p b)) n 0 (omega arith) (λ k s. part_byte b p e k (omega arith))
 
 module _ (b : List ℕ) (none : fault b ≡ None) (a n : ℕ) (many : n ≡ applicants_in b) (l : a < n) (at : ℕ) (place : at ≡ record_at b a) where
   -- a's record, its count and where its list goes

@@ -101,3 +101,7 @@ put_taken_more xs «from» at j s old k e l =
     put_more at (at + j) (take j ys) (get_or xs («from» + j) 0 ∷ []) s (set s (at + j) (get_or xs («from» + j) 0)) old (omega arith) (omega arith) e
     (set_is_put (at + j) (get_or xs («from» + j) 0) s room)
     ∙ ap (λ (z : List ℕ). put at z old) (sym (rw (get_or-drop «from» xs j 0) at (take_more ys j 0 short)))
+
+-- after a write to the k numbers from `at` on, which hold ys now
+pub put_part : (at k : ℕ) (ys xs old : List ℕ) → ys ≡ xs → length xs ≡ k → take at old ++ (ys ++ drop k (drop at old)) ≡ put at xs old
+put_part at k ys xs old e n = rw (e, ← n, drop-drop (length xs) at old) refl

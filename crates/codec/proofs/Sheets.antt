@@ -1,7 +1,7 @@
 -- Where the rows of each workshop begin, found while the rows go by in order: before row i is filled, the starts up to its workshop
 -- are known to be i.
-use Rattle.std.proofs.Common.{◌≡◌, ℕ, zero, suc, ◌+◌, ◌-◌, ◌<◌, ◌≤◌, List, ◌++◌, length, None, sym, refl, ap, ◌∙◌, ⊎_elim, add-one, arith}
-use Rattle.std.proofs.lemmas.List.{length-append, get_or_append_left, get_or-append_right}
+use Rattle.std.proofs.Common.{◌≡◌, ℕ, zero, suc, ◌+◌, ◌-◌, ◌<◌, ◌≤◌, List, ◌++◌, length, replicate, None, sym, refl, ap, ◌∙◌, ⊎_elim, add-one, arith}
+use Rattle.std.proofs.lemmas.List.{get_or-replicate, length-replicate, length-append, get_or_append_left, get_or-append_right}
 use Rattle.std.proofs.lemmas.Bool.{cases_lt}
 use Rattle.layout.specs.Slices.{over, table}
 use Rattle.layout.specs.Bytes.{byte, workshops_in, rows_in, row_at, row_workshop_in, rows_before, fault}
@@ -80,23 +80,22 @@ module _ (b : List ℕ) (none : fault b ≡ None) (i rows next : ℕ) (many : ro
   last_opens k h = rw many (closes b none k (omega (arith, all_open)))
 
 -- the same number from `next` up to `until`, behind the table up to `next`
-pub table_level : (f : ℕ → ℕ) (next until i : ℕ) → next ≤ until → ((k : ℕ) → next ≤ k → k < until → f k ≡ i) →
-    table f next ++ table (λ (_ : ℕ). i) (until - next) ≡ table f until
+table_level : (f : ℕ → ℕ) (next until i : ℕ) → next ≤ until → ((k : ℕ) → next ≤ k → k < until → f k ≡ i) →
+    table f next ++ replicate (until - next) i ≡ table f until
 table_level f next until i l h =
-    let level : ℕ → ℕ = λ _. i in
     let n = length_table f next in
-    let m = length_table level (until - next) in
-    is_table f (table f next ++ table level (until - next)) until 0 (omega (arith, length-append (table f next) (table level (until - next))))
+    let m = length-replicate (until - next) i in
+    is_table f (table f next ++ replicate (until - next) i) until 0 (omega (arith, length-append (table f next) (replicate (until - next) i)))
     (λ k s.
     ⊎_elim
-    (λ (p : k < next). get_or_append_left (table f next) (table level (until - next)) 0 k (omega arith) ∙ getD_table f next k 0 p)
+    (λ (p : k < next). get_or_append_left (table f next) (replicate (until - next) i) 0 k (omega arith) ∙ getD_table f next k 0 p)
     (λ (p : next ≤ k).
-    get_or-append_right (table f next) (table level (until - next)) next k 0 n p ∙ (getD_table level (until - next) (k - next) 0 (omega arith) ∙ sym (h k p s)))
+    get_or-append_right (table f next) (replicate (until - next) i) next k 0 n p ∙ (get_or-replicate (until - next) (k - next) i 0 (omega arith) ∙ sym (h k p s)))
     (cases_lt k next))
 
 pub over_level : (f : ℕ → ℕ) (next until i : ℕ) (s t old : List ℕ) → next ≤ until → ((k : ℕ) → next ≤ k → k < until → f k ≡ i) →
-    s ≡ over (table f next) old → t ≡ put next (table (λ (_ : ℕ). i) (until - next)) s → t ≡ over (table f until) old
+    s ≡ over (table f next) old → t ≡ put next (replicate (until - next) i) s → t ≡ over (table f until) old
 over_level f next until i s t old l h e g =
     rw e at g
-    ∙ (put_over next (table f next) (table (λ (_ : ℕ). i) (until - next)) old (length_table f next)
+    ∙ (put_over next (table f next) (replicate (until - next) i) old (length_table f next)
     ∙ ap (λ (z : List ℕ). over z old) (table_level f next until i l h))

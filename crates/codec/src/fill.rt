@@ -1,5 +1,5 @@
 // Filling lent slices with the tables of a round, from bytes that were judged without a fault.
-ghost use Rattle.std.specs.Prelude.{◌≡◌, ◌+◌, ◌-◌, ◌≤◌, length, IfOk, None};
+ghost use Rattle.std.specs.Prelude.{◌≡◌, ◌+◌, ◌-◌, ◌≤◌, length, replicate, IfOk, None};
 ghost use Rattle.layout.specs.Slices.{over, table, laid, outcome, or_else};
 ghost use Rattle.layout.specs.Bytes.{byte, places_from, seats_before, fault, applicants_in, record_at, lot_in, start_of, entries_below, workshops_in, rows_in, row_at, row_applicant_in, row_points_in, rows_before, sizes_in, tables_in};
 ghost use Rattle.layout.specs.Encode.{AsWritten};
@@ -33,21 +33,23 @@ fn fill_seats(bytes: &[u8], workshops: usize, seats: &mut [u32])
     ensures { seats.new ≡ over (table (seats_before bytes.now) (workshops + 1)) seats.old }
 {
     let mut sum: u32 = 0;
-    for w in 0..workshops {
+    for (w, places) in bytes[PLACES_FROM..PLACES_FROM + workshops]
+        .iter()
+        .enumerate()
+    {
         seats[w] = sum;
-        sum += bytes[PLACES_FROM + w] as u32;
+        sum += u32::from(*places);
     }
     seats[workshops] = sum;
 }
 
-// The list of `count` entries at `from`, into the entries from `start` on.
-fn fill_list(bytes: &[u8], from: usize, count: usize, entries: &mut [u16], start: usize)
-    requires there { from + count ≤ length bytes.now }
-    requires room { start + count ≤ length entries.old }
-    ensures { entries.new ≡ put start (table (λ j. byte bytes.now (from + j)) count) entries.old }
+// The entries of a list, of a byte each. (The index is counted because nothing is known of a slice that was written through a zip.)
+fn fill_list(list: &[u8], entries: &mut [u16])
+    requires { length entries.old ≡ length list.now }
+    ensures { entries.new ≡ list.now }
 {
-    for j in 0..count {
-        entries[start + j] = bytes[from + j] as u16;
+    for (j, entry) in list.iter().enumerate() {
+        entries[j] = u16::from(*entry);
     }
 }
 
@@ -73,12 +75,13 @@ fn fill_lists(
     let mut at = from;
     let mut start: usize = 0;
     for a in 0..applicants {
-        let count = bytes[at + 2] as usize;
+        let count = usize::from(bytes[at + 2]);
+        let next = at + 3 + count;
         lots[a] = word_in(bytes, at);
         starts[a] = start as u32;
-        fill_list(bytes, at + 3, count, entries, start);
+        fill_list(&bytes[at + 3..next], &mut entries[start..start + count]);
         start += count;
-        at += 3 + count;
+        at = next;
     }
     starts[applicants] = start as u32;
 }
@@ -87,11 +90,9 @@ fn fill_lists(
 fn open_sheets(row_starts: &mut [u32], next: usize, until: usize, row: u32)
     requires order { next ≤ until }
     requires room { until ≤ length row_starts.old }
-    ensures { row_starts.new ≡ put next (table (λ _. row) (until - next)) row_starts.old }
+    ensures { row_starts.new ≡ put next (replicate (until - next) row) row_starts.old }
 {
-    for w in next..until {
-        row_starts[w] = row;
-    }
+    row_starts[next..until].fill(row);
 }
 
 // The rows, and where those of each workshop begin. The rows stand from `from` on.
@@ -118,7 +119,7 @@ fn fill_rows(
     let mut at = from;
     let mut next: usize = 0;
     for i in 0..rows {
-        let until = bytes[at] as usize + 1;
+        let until = usize::from(bytes[at]) + 1;
         open_sheets(row_starts, next, until, i as u32);
         next = until;
         row_applicants[i] = word_in(bytes, at + 1);

@@ -1,9 +1,6 @@
--- The loop keeps: the entries so far lie over the slice from `start` on.
-use Rattle.std.proofs.Common.{◌≡◌, ◌+◌}
-use Rattle.layout.specs.Slices.{table}
-use Rattle.layout.specs.Bytes.{byte}
-use Rattle.codec.specs.Puts.{put}
+-- The loop keeps: the entries so far are the list's.
+use Rattle.std.proofs.Common.{◌≡◌, take}
 use Rattle.codec.proofs.fill.fill_list.Given as goal
 
 abbrev pub invariant-loop-j : goal.invariant-loop-j
-invariant-loop-j l = l.entries ≡ put l.start (table (λ j. byte l.bytes (l.«from» + j)) l.j) l.initial.entries
+invariant-loop-j l = take l.j l.entries ≡ take l.j l.list

@@ -17,7 +17,7 @@ open_sheets-requires c =
     let b = c.args.bytes.now in
     let v = c.loop-i.invariant in
     record {
-      order = sheet_order b c.requires.clean _ _ _ c.requires.many c.loop-i-test.true v.0 _ v.1;
+      order = omega (arith, sheet_order b c.requires.clean _ _ _ c.requires.many c.loop-i-test.true v.0 _ v.1);
       room = omega (arith, sheet_small b c.requires.clean _ _ _ c.requires.many c.loop-i-test.true v.0);
     }
 
@@ -43,9 +43,9 @@ loop-i-preserved c =
     let v = c.loop-i.invariant in
     let l = c.loop-i-test.true in (
       omega arith,
-      ap (λ (x : ℕ). byte b x + 1) v.0 ∙ sym (next_open_more b i),
-      over_level (λ (w : ℕ). rows_before b w c.args.rows) _ _ _ _ _ _ (sheet_order b c.requires.clean _ _ _ c.requires.many l v.0 _ v.1)
-          (sheet_opens b c.requires.clean _ _ _ c.requires.many l v.0 _ v.1) v.2 c.open_sheets.ensures,
+      ap (λ (x : ℕ). x + 1) (c.from-until.ensures ∙ ap (λ (x : ℕ). byte b x) v.0) ∙ sym (next_open_more b i),
+      over_level (λ (w : ℕ). rows_before b w c.args.rows) _ _ _ _ _ _ (omega (arith, sheet_order b c.requires.clean _ _ _ c.requires.many l v.0 _ v.1))
+          (λ k h s. sheet_opens b c.requires.clean _ _ _ c.requires.many l v.0 _ v.1 k h (omega arith)) v.2 c.open_sheets.ensures,
       over_table_more (row_applicant_in b) i _ _ _ v.3 (c.word_in.ensures ∙ ap (λ (x : ℕ). word b (x + 1)) v.0) (omega arith),
       over_table_more (row_points_in b) i _ _ _ v.4 (c.word_in-in-loop-i.ensures ∙ ap (λ (x : ℕ). word b (x + 3)) v.0) (omega arith),
     )
