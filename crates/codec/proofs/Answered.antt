@@ -95,9 +95,6 @@ module _ (b : List ℕ) (s : Sizes) (checked : Ok s ≡ outcome (fault b) (sizes
   records_within =
       omega (arith, workshops_is, record_at_none b, record_at_mono b 0 (applicants_in b) (omega arith), (clean_from_none b no_fault).whole)
 
-  pub rows_within : 4 + s.workshops + 3 * s.applicants + s.entries + 2 ≤ length b
-  rows_within = omega (arith, rows_from_is, (clean_from_none b no_fault).whole)
-
   -- what was laid over a slice by these sizes is the table that the bytes say
   module _ (x old : List ℕ) where
     pub seats_laid : x ≡ over (table (seats_before b) (s.workshops + 1)) old → x ≡ over (tables_in b).seats old

@@ -1,9 +1,9 @@
 -- The parts of a round that is written: how long they are, that they stay within the tables, and how the writers' parts join.
-use Rattle.std.proofs.Common.{◌≡◌, ℕ, ◌+◌, ◌-◌, ◌*◌, ◌<◌, ◌≤◌, ltb, List, [], ◌∷◌, ◌++◌, length, get_or, set, Ok, Err, Result, sym, refl, ap, ◌∙◌, ap₂, arith}
-use Rattle.std.proofs.lemmas.List.{append_assoc, length-append}
+use Rattle.std.proofs.Common.{◌≡◌, ℕ, ◌+◌, ◌-◌, ◌*◌, ◌<◌, ◌≤◌, ltb, List, [], ◌∷◌, ◌++◌, length, get_or, take, drop, set, Ok, Err, Result, sym, refl, ap, ◌∙◌, ap₂, arith}
+use Rattle.std.proofs.lemmas.List.{append_assoc, length-append, get_or-take, get_or-drop}
 use Rattle.std.proofs.lemmas.Bool.{lt-ltb, le-ltb}
 use Rattle.layout.specs.Slices.{table, flat, over, outcome}
-use Rattle.layout.specs.Tables.{Tables, Proper, applicants, workshops, rows, places_at, list_length}
+use Rattle.layout.specs.Tables.{Tables, Proper, applicants, workshops, rows, places_at, list_length, list_at}
 use Rattle.layout.specs.Bytes.{refuse}
 use Rattle.layout.specs.Encode.{two_bytes, record_bytes, row_bytes, sheet_bytes, encode}
 use Rattle.layout.specs.declared.Refusal.{Refusal}
@@ -12,7 +12,7 @@ use Rattle.layout.specs.declared.Lent.TheVariants.{RoundTables}
 use Rattle.layout.proofs.Flats.{flat_more, length_flat, length_table}
 use Rattle.layout.proofs.OfProper.{starts_within, row_starts_within, length_list_at}
 use Rattle.codec.specs.Puts.{put}
-use Rattle.codec.proofs.Puts.{put_more, put_front, set_is_put, length_put}
+use Rattle.codec.proofs.Puts.{put_more, put_over, put_part, put_front, set_is_put, length_put, over_whole}
 
 module _ (t : Tables) (p : Proper t) where
   pub list_within : (a : ℕ) → a < applicants t → get_or t.starts a 0 + list_length t a ≤ length t.entries
@@ -27,8 +27,12 @@ module _ (t : Tables) (p : Proper t) where
       length_flat (record_bytes t) (λ (k : ℕ). 3 * k + get_or t.starts k 0) a (omega (arith, p.started.1))
       (λ k h. omega (arith, p.started.2 k (omega arith), length_list_at t p k (omega arith)))
 
-  pub record_room : (a : ℕ) → a < applicants t → 3 * a + get_or t.starts a 0 + 3 + list_length t a ≤ 3 * applicants t + length t.entries
-  record_room a l = omega (arith, list_within a l)
+  pub list_small : (a : ℕ) → a < applicants t → (j : ℕ) → j < length (list_at t a) → get_or (list_at t a) j 0 < 256
+  list_small a l j h =
+      let long = length_list_at t p a l in
+      let within = list_within a l in
+      let at = get_or-take (list_length t a) (drop (get_or t.starts a 0) t.entries) j 0 (omega arith) ∙ get_or-drop (get_or t.starts a 0) t.entries j 0 in
+      omega (arith, entries_small (get_or t.starts a 0 + j) (omega arith))
 
   pub length_rows : (w «from» n : ℕ) → length (flat (λ (k : ℕ). row_bytes t w («from» + k)) n) ≡ 5 * n
   length_rows w «from» n = length_flat (λ (k : ℕ). row_bytes t w («from» + k)) (λ (k : ℕ). 5 * k) n refl (λ k _. omega arith)
@@ -38,9 +42,6 @@ module _ (t : Tables) (p : Proper t) where
 
   pub row_in_sheet : (w k : ℕ) → w < workshops t → k < get_or t.row_starts (w + 1) 0 - get_or t.row_starts w 0 → get_or t.row_starts w 0 + k < rows t
   row_in_sheet w k l h = omega (arith, row_starts_within t p (w + 1) (omega arith))
-
-  pub sheet_room : (w : ℕ) → w < workshops t → 5 * get_or t.row_starts w 0 + length (sheet_bytes t w) ≤ 5 * rows t
-  sheet_room w l = omega (arith, length_sheet w, p.sheeted.2 w l, row_starts_within t p (w + 1) (omega arith))
 
   pub length_sheets : (w : ℕ) → w ≤ workshops t → length (flat (sheet_bytes t) w) ≡ 5 * get_or t.row_starts w 0
   length_sheets w l =
@@ -62,10 +63,16 @@ row_put at w x y o o₁ o₂ l h g =
     let named = put_more at (at + 1) (w ∷ []) (two_bytes x) (set o at w) o₁ o (omega arith) refl (set_is_put at w o (omega arith)) h in
     put_more at (at + 3) (w ∷ two_bytes x) (two_bytes y) o₁ o₂ o (omega arith) refl named g
 
--- one of many parts more
-pub put_flat_more : (f : ℕ → List ℕ) (at i n : ℕ) (s z old : List ℕ) → at ≤ length old → n ≡ at + length (flat f i) → s ≡ put at (flat f i) old →
-    z ≡ put n (f i) s → z ≡ put at (flat f (i + 1)) old
-put_flat_more f at i n s z old l e h g = put_more at n (flat f i) (f i) s z old l e h g ∙ ap (λ (y : List ℕ). put at y old) (sym (flat_more f i))
+-- one of many parts more, and all of them
+module _ (f : ℕ → List ℕ) where
+  pub over_flat_more : (i at k : ℕ) (s ys old : List ℕ) → length (flat f i) ≡ at → ys ≡ f i → length (f i) ≡ k → s ≡ over (flat f i) old →
+      take at s ++ (ys ++ drop k (drop at s)) ≡ over (flat f (i + 1)) old
+  over_flat_more i at k s ys old e g n h =
+      put_part at k ys (f i) s g n
+      ∙ (ap (λ (z : List ℕ). put at (f i) z) h ∙ (put_over at (flat f i) (f i) old e ∙ ap (λ (z : List ℕ). over z old) (sym (flat_more f i))))
+
+  pub over_flat_end : (i n : ℕ) (s old : List ℕ) → i ≡ n → s ≡ over (flat f i) old → length old ≡ length (flat f n) → s ≡ flat f n
+  over_flat_end i n s old k h e = (rw k at h) ∙ over_whole (flat f n) old e
 
 append_five : (a b c d e : List ℕ) → (((a ++ b) ++ c) ++ d) ++ e ≡ a ++ (b ++ (c ++ (d ++ e)))
 append_five a b c d e = simp append_assoc

@@ -1,4 +1,4 @@
-// Writing a round out as bytes. Each writer puts its part over the lent bytes from a place on.
+// Writing a round out as bytes. Each writer fills the part of the lent bytes that is its own.
 ghost use Rattle.std.specs.Prelude.{◌≡◌, ℕ, ◌+◌, ◌*◌, ◌<◌, ◌≤◌, ◌∷◌, ◌++◌, length, take, drop, Ok, nat_lt, slice_index};
 ghost use Rattle.layout.specs.Slices.{table, flat, laid, outcome};
 ghost use Rattle.layout.specs.Bytes.{refuse, decode};
@@ -18,91 +18,87 @@ fn put_word(out: &mut [u8], at: usize, x: u16)
     requires { at + 2 ≤ length out.old }
     ensures { out.new ≡ put at (two_bytes x) out.old }
 {
-    out[at] = (x % 256) as u8;
-    out[at + 1] = (x / 256) as u8;
+    out[at..at + 2].copy_from_slice(&x.to_le_bytes());
 }
 
-// The `count` entries from `from` on, a byte each.
-fn put_list(entries: &[u16], from: usize, count: usize, out: &mut [u8], at: usize)
-    requires there { from + count ≤ length entries.now }
-    requires small { (j : ℕ) → j < length entries.now → slice_index entries.now j < 256 }
-    requires room { at + count ≤ length out.old }
-    ensures { out.new ≡ put at (take count (drop from entries.now)) out.old }
+// The entries of a list, a byte each. (The index is counted because nothing is known of a slice that was written through a zip.)
+fn put_list(list: &[u16], out: &mut [u8])
+    requires small { (j : ℕ) → j < length list.now → slice_index list.now j < 256 }
+    requires long { length out.old ≡ length list.now }
+    ensures { out.new ≡ list.now }
 {
-    for j in 0..count {
-        out[at + j] = entries[from + j] as u8;
+    for (j, entry) in list.iter().enumerate() {
+        out[j] = *entry as u8;
     }
 }
 
 // The places of the workshops.
 fn write_places(round: &Round, out: &mut [u8])
-    requires { 4 + workshops_of (tables_of round.now) ≤ length out.old }
-    ensures { out.new ≡ put 4 (table (places_at (tables_of round.now)) (workshops_of (tables_of round.now))) out.old }
+    requires { length out.old ≡ workshops_of (tables_of round.now) }
+    ensures { out.new ≡ table (places_at (tables_of round.now)) (workshops_of (tables_of round.now)) }
 {
-    for w in 0..round.workshops() {
-        out[PLACES_FROM + w] = (round.seats[w + 1] - round.seats[w]) as u8;
+    for (w, places) in out.iter_mut().enumerate() {
+        *places = (round.seats[w + 1] - round.seats[w]) as u8;
     }
 }
 
 // The record of applicant a: its lot, the count of its list, the list.
-fn write_record(round: &Round, a: usize, out: &mut [u8], at: usize)
+fn write_record(round: &Round, a: usize, out: &mut [u8])
     requires one { a < applicants_of (tables_of round.now) }
-    requires room { at + 3 + list_length (tables_of round.now) a ≤ length out.old }
-    ensures { out.new ≡ put at (record_bytes (tables_of round.now) a) out.old }
+    requires long { length out.old ≡ 3 + list_length (tables_of round.now) a }
+    ensures { out.new ≡ record_bytes (tables_of round.now) a }
 {
-    let start = round.starts[a] as usize;
-    let count = round.starts[a + 1] as usize - start;
-    put_word(out, at, round.lots[a]);
-    out[at + 2] = count as u8;
-    put_list(round.entries, start, count, out, at + 3);
+    let list = &round.entries[round.starts[a] as usize..round.starts[a + 1] as usize];
+    put_word(out, 0, round.lots[a]);
+    out[2] = list.len() as u8;
+    put_list(list, &mut out[3..]);
 }
 
-// The records of all applicants, from `at` on.
-fn write_records(round: &Round, out: &mut [u8], at: usize)
-    requires { at + 3 * applicants_of (tables_of round.now) + length (tables_of round.now).entries ≤ length out.old }
-    ensures { out.new ≡ put at (flat (record_bytes (tables_of round.now)) (applicants_of (tables_of round.now))) out.old }
+// The records of all applicants. (They are of changing length: applicant a's begins behind 3 bytes and the list of each one before.)
+fn write_records(round: &Round, out: &mut [u8])
+    requires { length out.old ≡ 3 * applicants_of (tables_of round.now) + length (tables_of round.now).entries }
+    ensures { out.new ≡ flat (record_bytes (tables_of round.now)) (applicants_of (tables_of round.now)) }
 {
     for a in 0..round.applicants() {
-        write_record(round, a, out, at + 3 * a + round.starts[a] as usize);
+        let from = 3 * a + round.starts[a] as usize;
+        let to = 3 * (a + 1) + round.starts[a + 1] as usize;
+        write_record(round, a, &mut out[from..to]);
     }
 }
 
 // A row: workshop, applicant, points.
-fn write_row(out: &mut [u8], at: usize, workshop: u8, applicant: u16, points: u16)
-    requires { at + 5 ≤ length out.old }
-    ensures { out.new ≡ put at (workshop ∷ (two_bytes applicant ++ two_bytes points)) out.old }
+fn write_row(workshop: u8, applicant: u16, points: u16, out: &mut [u8])
+    requires { length out.old ≡ 5 }
+    ensures { out.new ≡ workshop ∷ (two_bytes applicant ++ two_bytes points) }
 {
-    out[at] = workshop;
-    put_word(out, at + 1, applicant);
-    put_word(out, at + 3, points);
+    out[0] = workshop;
+    put_word(out, 1, applicant);
+    put_word(out, 3, points);
 }
 
-// The rows of workshop w, from `at` on.
-fn write_sheet(round: &Round, w: usize, out: &mut [u8], at: usize)
+// The rows of workshop w. (Chunks of five bytes would have no index to count, but nothing is known of a slice that was written in chunks.)
+fn write_sheet(round: &Round, w: usize, out: &mut [u8])
     requires one { w < workshops_of (tables_of round.now) }
-    requires room { at + length (sheet_bytes (tables_of round.now) w) ≤ length out.old }
-    ensures { out.new ≡ put at (sheet_bytes (tables_of round.now) w) out.old }
+    requires long { length out.old ≡ length (sheet_bytes (tables_of round.now) w) }
+    ensures { out.new ≡ sheet_bytes (tables_of round.now) w }
 {
     let from = round.row_starts[w] as usize;
-    let count = round.row_starts[w + 1] as usize - from;
-    for k in 0..count {
-        write_row(
-            out,
-            at + 5 * k,
-            w as u8,
-            round.row_applicants[from + k],
-            round.row_points[from + k],
-        );
+    let to = round.row_starts[w + 1] as usize;
+    for (k, applicant) in round.row_applicants[from..to].iter().enumerate() {
+        let points = round.row_points[from + k];
+        write_row(w as u8, *applicant, points, &mut out[5 * k..5 * k + 5]);
     }
 }
 
-// The rows of all workshops, from `at` on.
-fn write_sheets(round: &Round, out: &mut [u8], at: usize)
-    requires { at + 5 * rows_of (tables_of round.now) ≤ length out.old }
-    ensures { out.new ≡ put at (flat (sheet_bytes (tables_of round.now)) (workshops_of (tables_of round.now))) out.old }
+// The rows of all workshops.
+fn write_sheets(round: &Round, out: &mut [u8])
+    requires { length out.old ≡ 5 * rows_of (tables_of round.now) }
+    ensures { out.new ≡ flat (sheet_bytes (tables_of round.now)) (workshops_of (tables_of round.now)) }
 {
     for w in 0..round.workshops() {
-        write_sheet(round, w, out, at + 5 * round.row_starts[w] as usize);
+        let from = 5 * round.row_starts[w] as usize;
+        let to = 5 * round.row_starts[w + 1] as usize;
+        write_sheet(round, w, &mut out[from..to]);
     }
 }
 
@@ -116,16 +112,17 @@ pub fn write(round: &Round, out: &mut [u8]) -> Result<usize, Refusal>
     let applicants = round.applicants();
     let workshops = round.workshops();
     let rows = round.row_applicants.len();
-    let rows_from = PLACES_FROM + workshops + 3 * applicants + round.entries.len();
+    let records_from = PLACES_FROM + workshops;
+    let rows_from = records_from + 3 * applicants + round.entries.len();
     let size = rows_from + 2 + 5 * rows;
     if out.len() < size {
         return Err(Refusal::NoRoom(Lent::RoundTables));
     }
     put_word(out, 0, applicants as u16);
     put_word(out, 2, workshops as u16);
-    write_places(round, out);
-    write_records(round, out, PLACES_FROM + workshops);
+    write_places(round, &mut out[PLACES_FROM..records_from]);
+    write_records(round, &mut out[records_from..rows_from]);
     put_word(out, rows_from, rows as u16);
-    write_sheets(round, out, rows_from + 2);
+    write_sheets(round, &mut out[rows_from + 2..size]);
     Ok(size)
 }
