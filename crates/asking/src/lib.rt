@@ -160,15 +160,14 @@ fn tell(round: &Round, results: &mut [u16]) -> usize
     ensures results { results.new ≡ over (table (told_from (tables_of round.now) results.old) (applicants (tables_of round.now))) results.old }
     ensures placed { result ≡ count (ends_at (tables_of round.now) results.old) (applicants (tables_of round.now)) }
 {
-    let mut placed: usize = 0;
-    for a in 0..round.lots.len() {
-        let at = results[a] - 1;
-        if (at as usize) < list_len(round, a) {
-            results[a] = at;
-            placed += 1;
+    let front = &mut results[0..round.lots.len()];
+    for (a, told) in front.iter_mut().enumerate() {
+        let last = *told - 1;
+        *told = if usize::from(last) < list_len(round, a) {
+            last
         } else {
-            results[a] = 255;
-        }
+            NO_PLACE
+        };
     }
-    placed
+    front.iter().filter(|told| **told != NO_PLACE).count()
 }
