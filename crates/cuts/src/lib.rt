@@ -40,14 +40,14 @@ impl fmt::Display for Cut {
 pub fn cut_of(bench: &[u32], round: &Round) -> Cut
     ensures { result ≡ cut_of_bench (tables_of round.now) bench.now }
 {
-    let [.., last] = bench else {
-        return Cut::Shut;
-    };
-    if *last == u32::MAX {
-        return Cut::Open;
+    match *bench {
+        [] => Cut::Shut,
+        [.., u32::MAX] => Cut::Open,
+        [.., last] => {
+            let (points, lot) = standing(round, last);
+            Cut::Full(points, lot)
+        }
     }
-    let (points, lot) = standing(round, *last);
-    Cut::Full(points, lot)
 }
 
 // Whether somebody with these points and this lot reaches the cut.
