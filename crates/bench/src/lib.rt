@@ -1,7 +1,8 @@
 // A workshop's bench: the best of those who asked, as many as it has places.
 #![tactic(auto)]
 
-ghost use Rattle.std.specs.Prelude.{◌≡◌, if◌then◌else◌, nat_eq};
+ghost use Rattle.std.specs.Prelude.{◌≡◌, ◌+◌, ◌<◌, length, if◌then◌else◌, nat_eq, nat_lt, MatchOption};
+ghost use Rattle.std.specs.List.{suffix_len};
 ghost use Rattle.codec.specs.Rounds.{tables_of};
 ghost use Rattle.points.specs.Standing.{row_worth, no_row};
 ghost use Rattle.bench.specs.Row.{taken_in, left_out, answer_of};
@@ -20,6 +21,29 @@ pub enum Answer {
     TurnedDown,
 }
 
+// How many rows at the end of a bench go behind `row`, one after the other.
+fn behind(bench: &[u32], round: &Round, row: u32) -> usize
+    ensures { result ≡ suffix_len (λ other. nat_lt (row_worth (tables_of round.now) other) (row_worth (tables_of round.now) row)) bench.now }
+{
+    bench
+        .iter()
+        .rev()
+        .take_while(|other| points::row_ahead(round, row, **other))
+        .count()
+}
+
+// The first seat from which on `row` goes ahead of everybody; none if it does not go ahead of the last, whom most askers stay behind,
+// so that one is looked at alone first.
+fn seat_for(bench: &[u32], round: &Round, row: u32) -> Option<usize>
+    ensures { let behind = suffix_len (λ other. nat_lt (row_worth (tables_of round.now) other) (row_worth (tables_of round.now) row)) bench.now in MatchOption result (behind ≡ 0) (λ seat. (0 < behind) × (seat + behind ≡ length bench.now)) }
+{
+    let last = *bench.last()?;
+    if !points::row_ahead(round, row, last) {
+        return None;
+    }
+    Some(bench.len() - behind(bench, round, row))
+}
+
 // A row asks for a seat on a bench, whose seats hold rows, best first, and `u32::MAX` where they are empty. The row in the last seat
 // is looked at first: if it stays ahead, the asker is turned down. Else it is out, and those behind the asker move down by one.
 pub fn ask(bench: &mut [u32], round: &Round, row: u32) -> Answer
@@ -27,18 +51,11 @@ pub fn ask(bench: &mut [u32], round: &Round, row: u32) -> Answer
     ensures answer { result ≡ answer_of row (left_out (row_worth (tables_of round.now)) row bench.old) }
     ensures best { KeepsBest (row_worth (tables_of round.now)) row bench.old bench.new }
 {
-    if bench.len() == 0 {
+    let Some(seat) = seat_for(bench, round, row) else {
         return Answer::TurnedDown;
-    }
-    let mut seat = bench.len() - 1;
-    let last = bench[seat];
-    if !points::row_ahead(round, row, last) {
-        return Answer::TurnedDown;
-    }
-    while seat > 0 && points::row_ahead(round, row, bench[seat - 1]) {
-        bench[seat] = bench[seat - 1];
-        seat -= 1;
-    }
+    };
+    let last = bench[bench.len() - 1];
+    bench[seat..].rotate_right(1);
     bench[seat] = row;
     seated(last)
 }
@@ -47,39 +64,30 @@ pub fn ask(bench: &mut [u32], round: &Round, row: u32) -> Answer
 fn seated(last: u32) -> Answer
     ensures { result ≡ (if nat_eq last no_row then Kept else Displaced last) }
 {
-    if last == u32::MAX {
-        Answer::Kept
-    } else {
-        Answer::Displaced(last)
+    match last {
+        u32::MAX => Answer::Kept,
+        row => Answer::Displaced(row),
     }
 }
 
 // What holds of benches after any row of asks, each theorem on the contract of a function.
 
 // The bench holds the best of those who asked and have points, as many as it has places.
-pub fn all_asks() -> u8
+pub fn all_asks()
     ensures { AllAsks }
-{
-    0
-}
+{}
 
 // The order of asking does not matter.
-pub fn any_order() -> u8
+pub fn any_order()
     ensures { AnyOrder }
-{
-    0
-}
+{}
 
 // As many seats are taken as there are askers with points, up to the number of places.
-pub fn seats_taken() -> u8
+pub fn seats_taken()
     ensures { SeatsTaken }
-{
-    0
-}
+{}
 
 // Asking up from the last seat is asking down from the first.
-pub fn up_or_down() -> u8
+pub fn up_or_down()
     ensures { UpOrDown }
-{
-    0
-}
+{}

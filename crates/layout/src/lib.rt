@@ -10,11 +10,11 @@ mod laws;
 pub use laws::{all_as_written, reads_back};
 
 // How many points a workshop gives an applicant.
-#[derive(Clone, Copy, PartialEq, Eq, Debug)]
+#[derive(Clone, Copy, PartialEq, Eq, PartialOrd, Ord, Debug)]
 pub struct Points(pub u16);
 
 // An applicant's lot: of two with equal points the lower lot goes ahead.
-#[derive(Clone, Copy, PartialEq, Eq, Debug)]
+#[derive(Clone, Copy, PartialEq, Eq, PartialOrd, Ord, Debug)]
 pub struct Lot(pub u16);
 
 // How many applicants, workshops, list entries and rows a round has.

@@ -14,20 +14,13 @@ pub(crate) fn ask_all(round: &Round, bench: &mut [u32], order: &[u32]) {
 
 // The seats hold `best`, as many as there are, and the others are empty.
 pub(crate) fn seats_are(seats: &[u32], best: &[u32]) -> bool {
-    for (i, seat) in seats.iter().enumerate() {
-        let want = if i < best.len() { best[i] } else { u32::MAX };
-        if *seat != want {
-            return false;
-        }
-    }
-    true
+    let taken = seats.len().min(best.len());
+    seats[..taken] == best[..taken] && seats[taken..].iter().all(|seat| *seat == u32::MAX)
 }
 
 // On an empty bench all of `order` ask; true if it holds `best` then.
 pub(crate) fn one_order(round: &Round, seats: &mut [u32], order: &[u32], best: &[u32]) -> bool {
-    for seat in seats.iter_mut() {
-        *seat = u32::MAX;
-    }
+    seats.fill(u32::MAX);
     ask_all(round, seats, order);
     seats_are(seats, best)
 }

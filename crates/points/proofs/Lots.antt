@@ -1,5 +1,6 @@
 -- A read round's tables are proper; lots are small enough for worths to order by them.
-use Rattle.std.proofs.Common.{◌≡◌, ℕ, ◌<◌, ◌≤◌, ltb, ◌≢◌, refl, arith}
+use Rattle.std.proofs.Common.{◌≡◌, ℕ, ◌<◌, ◌≤◌, false, eqb, ltb, refl, arith}
+use Rattle.std.specs.Ordering.{nat_cmp, is_gt}
 use Rattle.std.proofs.lemmas.List.{get_or_past}
 use Rattle.std.proofs.lemmas.Bool.{cond_both, ltb-true}
 use Rattle.std.proofs.lemmas.Bool.Decides.{nat_tests}
@@ -29,9 +30,9 @@ lot_small t good i =
     cond_both (ltb i (rows t)) _ 0 (λ x. x < 65536) (λ e. good.drawn _ (good.rowed.1 i (ltb-true i (rows t) e))) (λ e. omega arith)
 
 -- of two with different points the lots do not matter
-pub ltb_worth_of : (p q l k : ℕ) → l < 65536 → k < 65536 → p ≢ q → ltb q p ≡ ltb (worth_of q k) (worth_of p l)
+pub more_points : (p q l k : ℕ) → l < 65536 → k < 65536 → eqb p q ≡ false → is_gt (nat_cmp p q) ≡ ltb (worth_of q k) (worth_of p l)
 unfolding worth_of
-ltb_worth_of p q l k hl hk ne = grind (arith, nat_tests)
+more_points p q l k hl hk ne = grind (arith, nat_tests)
 
 -- a number that is no row is worth nothing
 pub row_worth_past : (t : Tables) → Proper t → (i : ℕ) → rows t ≤ i → row_worth t i ≡ 0

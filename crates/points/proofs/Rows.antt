@@ -1,9 +1,9 @@
 -- Where an applicant's row at a workshop stands: the rows of a workshop are sorted by applicant, so it is the first that is not of an
 -- earlier applicant, or there is none.
-use Rattle.std.proofs.Common.{◌≡◌, ℕ, zero, suc, ◌+◌, ◌-◌, ◌<◌, ◌≤◌, cond, ◌&&◌, eqb, ltb, ◌≢◌, ◌⊎◌, get_or, sym, refl, ap, ◌∙◌, inl, inr, arith}
+use Rattle.std.proofs.Common.{◌≡◌, ℕ, zero, suc, ◌+◌, ◌-◌, ◌<◌, ◌≤◌, cond, ◌&&◌, eqb, ltb, ◌≢◌, ◌⊎◌, sym, refl, ap, ◌∙◌, inl, inr, arith}
 use Rattle.std.proofs.lemmas.Bool.{cases_eq, cases_lt, cases_order, cond_both, cond-true, cond-false, eqb-true, eq-eqb, ne_eqb, lt-ltb, le-ltb, and_from, and_left, and_right}
 use Rattle.layout.specs.Tables.{Tables, Proper, workshops, rows}
-use Rattle.layout.proofs.Offsets.{rises}
+use Rattle.layout.proofs.OfProper.{row_starts_within}
 use Rattle.points.specs.Standing.{row_from, row_of, no_row}
 use Rattle.points.specs.Cursors.{from_row, to_row, applicant_of}
 
@@ -65,8 +65,7 @@ module _ (t : Tables) (a : ℕ) where
 
 module _ (t : Tables) (good : Proper t) where
   pub to_row_le : (w : ℕ) → w < workshops t → to_row t w ≤ rows t
-  to_row_le w h =
-      omega (arith, rises (λ k. get_or t.row_starts k 0) (workshops t) good.sheeted.2 (w + 1) (omega arith), good.sheeted.3)
+  to_row_le w h = row_starts_within t good (w + 1) (omega arith)
 
   applicants_rise : (w i d : ℕ) → w < workshops t → from_row t w ≤ i → i + suc d < to_row t w → applicant_of t i < applicant_of t (i + suc d)
   applicants_rise w i zero h l u = good.sorted w i (h, l, u)

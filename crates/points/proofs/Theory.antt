@@ -1,10 +1,12 @@
 -- The round of the theory that proper tables are is proper, and what its market says in the words of the tables.
-use Rattle.std.proofs.Common.{◌≡◌, ℕ, ◌+◌, ◌<◌, ◌≤◌, Bool, ◌&&◌, ltb, List, [], length, get_or, drop, sym, ap, ◌∙◌, inl, inr, arith}
+use Rattle.std.proofs.Common.{◌≡◌, ℕ, ◌+◌, ◌<◌, ◌≤◌, Bool, ◌&&◌, ltb, List, [], length, get_or, sym, ap, ◌∙◌, inl, inr, arith}
 use Rattle.std.proofs.lemmas.Bool.{cases_lt, cases_order}
-use Rattle.std.proofs.lemmas.List.{get_or_past, get_or-take, get_or-drop, get_or_default, length-take-le, length-drop}
+use Rattle.std.proofs.lemmas.List.{get_or_past, get_or_default}
 use Rattle.layout.specs.Slices.{table}
 use Rattle.layout.specs.Tables.{Tables, Proper, applicants, workshops, places_at, list_at, list_length}
 use Rattle.layout.proofs.Flats.{length_table, getD_table}
+pub use Rattle.layout.proofs.OfProper.{length_list_at}
+use Rattle.layout.proofs.OfProper as proper
 use Rattle.layout.proofs.Seen.{no_repeat_apart}
 use Rattle.round.specs.Places as places
 use Rattle.round.specs.Promise as promise
@@ -19,16 +21,10 @@ keeps_same : (x : Bool) (p q c d k l : ℕ) → p ≡ q → c ≡ d → k ≡ l 
 keeps_same x p q c d k l e f g = cc
 
 module _ (t : Tables) (good : Proper t) where
-  pub length_list_at : (a : ℕ) → a < applicants t → length (list_at t a) ≡ list_length t a
-  length_list_at a h =
-      length-take-le (list_length t a) (drop (get_or t.starts a 0) t.entries)
-      (omega (arith, length-drop (get_or t.starts a 0) t.entries, starts_le t good a h))
-
   pub getD_list_at : (a j d : ℕ) → a < applicants t → j < list_length t a → get_or (list_at t a) j d ≡ get_or t.entries (get_or t.starts a 0 + j) 0
   getD_list_at a j d h l =
-      get_or_default (list_at t a) j d 0 (omega (arith, length_list_at a h))
-      ∙ get_or-take (list_length t a) (drop (get_or t.starts a 0) t.entries) j 0 l
-      ∙ get_or-drop (get_or t.starts a 0) t.entries j 0
+      get_or_default (list_at t a) j d 0 (omega (arith, length_list_at t good a h))
+      ∙ proper.getD_list_at t good a j l
 
   -- lists name workshops
   pub list_named : (a j d : ℕ) → a < applicants t → j < list_length t a → get_or (list_at t a) j d < workshops t
@@ -72,7 +68,7 @@ module _ (t : Tables) (good : Proper t) where
           | inr (inl l) ↦ absurd (no_repeat_apart (list_at t a) (good.distinct a h) j k l hk e)
           | inr (inr l) ↦ absurd (no_repeat_apart (list_at t a) (good.distinct a h) k j l hj (sym e))
         ],
-    λ j hj. list_named a j (workshops t) h (omega (arith, length_list_at a h)),
+    λ j hj. list_named a j (workshops t) h (omega (arith, length_list_at t good a h)),
   )
 
   points_distinct : (p a b : ℕ) → a < applicants t → b < applicants t → 0 < places.point (round_of t) p a → places.point (round_of t) p a ≡ places.point (round_of t) p b → a ≡ b
@@ -105,7 +101,7 @@ module _ (t : Tables) (good : Proper t) where
 
   pub market_len : (a : ℕ) → a < applicants t → (market t).wish.len a ≡ list_length t a
   unfolding market market_of wish_of
-  market_len a h = ap (λ (xs : List ℕ). length xs) (round_list a h) ∙ length_list_at a h
+  market_len a h = ap (λ (xs : List ℕ). length xs) (round_list a h) ∙ length_list_at t good a h
 
   pub market_len_none : (a : ℕ) → applicants t ≤ a → (market t).wish.len a ≡ 0
   unfolding market market_of wish_of

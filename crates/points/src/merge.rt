@@ -1,6 +1,7 @@
 // Each list entry's row, found for all entries in one pass: applicants in order, with a cursor for each workshop into its rows, which
 // are sorted by applicant. The steps are as many as there are rows and entries.
-ghost use Rattle.std.specs.Prelude.{◌≡◌, ℕ, ◌<◌, ◌≤◌, ◌&&◌, length, if◌then◌else◌, ◌==◌, nat_lt};
+ghost use Rattle.std.specs.Prelude.{◌≡◌, ℕ, ◌<◌, ◌≤◌, ◌&&◌, length, if◌then◌else◌, ◌==◌, nat_lt, map, slice_index, slice_range, unwrap_or, ◌+◌};
+ghost use Rattle.std.specs.List.{prefix_len};
 ghost use Rattle.layout.specs.Slices.{laid, outcome};
 ghost use Rattle.layout.specs.Bytes.{refuse};
 ghost use Rattle.layout.specs.Tables.{workshops, most_workshops};
@@ -13,46 +14,45 @@ ghost use Rattle.points.specs.Cursors.{to_row, applicant_of, Passed};
 use codec::{MOST_WORKSHOPS, Round};
 use layout::{Lent, Refusal};
 
-// The first row of workshop `w`, from `from` on, whose applicant is not before `applicant`; the end of its rows if there is none.
-fn next_row(round: &Round, w: usize, from: usize, applicant: usize) -> usize
-    requires workshop { w < workshops (tables_of round.now) }
-    requires within { from ≤ to_row (tables_of round.now) w }
-    ensures within { (from ≤ result) × (result ≤ to_row (tables_of round.now) w) }
-    ensures passed { (j : ℕ) → from ≤ j → j < result → applicant_of (tables_of round.now) j < applicant }
-    ensures first { result < to_row (tables_of round.now) w → applicant ≤ applicant_of (tables_of round.now) result }
+// How many rows at the front are of applicants before `applicant`.
+fn earlier(row_applicants: &[u16], applicant: usize) -> usize
+    ensures { result ≡ prefix_len (λ other. nat_lt other applicant) row_applicants.now }
 {
-    let end = round.row_starts[w + 1] as usize;
-    let mut i = from;
-    while i < end && (round.row_applicants[i] as usize) < applicant {
-        i += 1;
-    }
-    i
+    row_applicants
+        .iter()
+        .take_while(|other| usize::from(**other) < applicant)
+        .count()
 }
 
-// The row `i` if it is one of workshop `w` and the applicant's own; else `u32::MAX`.
-fn own_row(round: &Round, w: usize, i: usize, applicant: usize) -> u32
-    requires workshop { w < workshops (tables_of round.now) }
-    ensures { result ≡ (if nat_lt i (to_row (tables_of round.now) w) && applicant_of (tables_of round.now) i == applicant then i else no_row) }
-{
-    if i < round.row_starts[w + 1] as usize && round.row_applicants[i] as usize == applicant {
-        i as u32
-    } else {
-        u32::MAX
-    }
-}
-
-// An applicant's row at workshop `w`, or `u32::MAX`, where the cursors have passed only rows of earlier applicants.
-fn find_row(round: &Round, passed: &mut [u32], w: usize, applicant: usize) -> u32
+// An applicant's row at workshop `w`, if there is one, where the cursors have passed only rows of earlier applicants.
+fn find_row(round: &Round, passed: &mut [u32], w: usize, applicant: usize) -> Option<u32>
     requires workshop { w < workshops (tables_of round.now) }
     requires long { length passed.old ≡ most_workshops }
     requires before { Passed (tables_of round.now) applicant passed.old }
-    ensures row { result ≡ row_of (tables_of round.now) w applicant }
+    ensures row { unwrap_or result no_row ≡ row_of (tables_of round.now) w applicant }
     ensures before { Passed (tables_of round.now) applicant passed.new }
 {
-    let first = round.row_starts[w] as usize;
-    let row = next_row(round, w, first + passed[w] as usize, applicant);
-    passed[w] = (row - first) as u32;
-    own_row(round, w, row, applicant)
+    let from = (round.row_starts[w] + passed[w]) as usize;
+    let rest = &round.row_applicants[from..round.row_starts[w + 1] as usize];
+    let more = earlier(rest, applicant);
+    passed[w] += more as u32;
+    rest.get(more)
+        .is_some_and(|own| usize::from(*own) == applicant)
+        .then_some((from + more) as u32)
+}
+
+// Writes, for each entry of an applicant's list, the number of its row, or `u32::MAX` where there is none.
+fn find_list(round: &Round, passed: &mut [u32], list: &[u16], applicant: usize, rows: &mut [u32])
+    requires named { (k : ℕ) → k < length list.now → slice_index list.now k < workshops (tables_of round.now) }
+    requires room { length rows.old ≡ length list.now }
+    requires long { length passed.old ≡ most_workshops }
+    requires before { Passed (tables_of round.now) applicant passed.old }
+    ensures rows { rows.new ≡ map (λ w. row_of (tables_of round.now) w applicant) list.now }
+    ensures before { Passed (tables_of round.now) applicant passed.new }
+{
+    for (k, w) in list.iter().enumerate() {
+        rows[k] = find_row(round, passed, usize::from(*w), applicant).unwrap_or(u32::MAX);
+    }
 }
 
 // Writes, for every list entry of every applicant, the number of its row, or `u32::MAX` where there is none, and gives the number of
@@ -68,9 +68,13 @@ pub fn find_rows(round: &Round, rows: &mut [u32]) -> Result<usize, Refusal>
     for applicant in 0..round.lots.len() {
         let from = round.starts[applicant] as usize;
         let to = round.starts[applicant + 1] as usize;
-        for k in from..to {
-            rows[k] = find_row(round, &mut passed, round.entries[k] as usize, applicant);
-        }
+        find_list(
+            round,
+            &mut passed,
+            &round.entries[from..to],
+            applicant,
+            &mut rows[from..to],
+        );
     }
     Ok(round.entries.len())
 }
