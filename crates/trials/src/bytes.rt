@@ -1,114 +1,92 @@
 // Small rounds and their letters written as bytes, apart from the writers under trial.
-use crate::case::{Case, Got};
-use crate::cut;
+use crate::case::{Addressee, Applicant, Case};
+use crate::cut::Cut;
+use std::alloc::{AllocError, Global};
 
-#[derive(Clone, Copy)]
-pub struct Bytes {
-    count: usize,
-    bytes: [u8; 160],
+// Stands for no place in a letter's bytes, and in what the program leaves for an applicant.
+pub const NO_PLACE: u8 = 255;
+
+// The byte of a small number: a workshop, a length or a number of places.
+fn byte(x: usize) -> u8 {
+    (x & 0xff) as u8
 }
 
-impl Bytes {
-    fn new() -> Bytes {
-        Bytes {
-            count: 0,
-            bytes: [0; 160],
-        }
-    }
+// The two bytes of the number of an applicant or a row.
+fn word(x: usize) -> [u8; 2] {
+    ((x & 0xffff) as u16).to_le_bytes()
+}
 
-    fn push(&mut self, x: u8) {
-        if self.count < 160 {
-            self.bytes[self.count] = x;
-            self.count += 1;
-        }
+fn push_list(out: &mut Vec<u8>, applicant: &Applicant) -> Result<(), AllocError> {
+    out.extend_from_slice(&applicant.lot.to_le_bytes())?;
+    out.push(byte(applicant.wishes.len()))?;
+    for w in &applicant.wishes {
+        out.push(byte(*w))?;
     }
+    Ok(())
+}
 
-    fn push_word(&mut self, x: usize) {
-        self.push((x & 255) as u8);
-        self.push(((x >> 8) & 255) as u8);
-    }
-
-    pub(crate) fn written(&self) -> &[u8] {
-        &self.bytes[0..self.count.min(160)]
-    }
-
-    fn push_lists(&mut self, case: &Case) {
-        for a in 0..case.applicants.min(5) {
-            self.push_word(case.lot_of(a) as usize);
-            let count = case.count_of(a).min(4);
-            self.push(count as u8);
-            for k in 0..count {
-                if let Some(w) = case.wish(a, k) {
-                    self.push((w & 255) as u8);
-                }
+// The rows by workshop, in the order of applicants: the workshop, the applicant and the points.
+fn rows(alloc: Global, case: &Case) -> Result<Vec<(usize, usize, u16)>, AllocError> {
+    let mut rows = Vec::new(alloc);
+    for w in 0..case.places.len() {
+        for (a, applicant) in case.applicants.iter().enumerate() {
+            if let Some(points) = applicant.points_at(w) {
+                rows.push((w, a, points))?;
             }
         }
     }
-
-    fn push_row(&mut self, w: usize, a: usize, points: u16) {
-        self.push((w & 255) as u8);
-        self.push_word(a);
-        self.push_word(points as usize);
-    }
-
-    fn push_entry(&mut self, case: &Case, got: &Got, w: usize, a: usize) {
-        let cut = cut::cut_at(case, got, w);
-        self.push((w & 255) as u8);
-        self.push_word(case.points_of(w, a) as usize);
-        self.push(cut.kind);
-        self.push_word(cut.points as usize);
-        self.push_word(cut.lot as usize);
-    }
-
-    fn push_rows(&mut self, case: &Case) {
-        self.push_word(rows(case));
-        for w in 0..case.workshops.min(4) {
-            for a in 0..case.applicants.min(5) {
-                let points = case.points_of(w, a);
-                if points > 0 {
-                    self.push_row(w, a, points);
-                }
-            }
-        }
-    }
+    Ok(rows)
 }
 
-fn rows(case: &Case) -> usize {
-    let mut number = 0usize;
-    for w in 0..case.workshops.min(4) {
-        for a in 0..case.applicants.min(5) {
-            if case.points_of(w, a) > 0 {
-                number = number.saturating_add(1);
-            }
-        }
+pub(crate) fn write(alloc: Global, case: &Case) -> Result<Vec<u8>, AllocError> {
+    let mut out = Vec::new(alloc);
+    out.extend_from_slice(&word(case.applicants.len()))?;
+    out.extend_from_slice(&word(case.places.len()))?;
+    for places in &case.places {
+        out.push(byte(*places))?;
     }
-    number
+    for applicant in &case.applicants {
+        push_list(&mut out, applicant)?;
+    }
+    let rows = rows(alloc, case)?;
+    out.extend_from_slice(&word(rows.len()))?;
+    for (w, a, points) in &rows {
+        out.push(byte(*w))?;
+        out.extend_from_slice(&word(*a))?;
+        out.extend_from_slice(&points.to_le_bytes())?;
+    }
+    Ok(out)
 }
 
-pub(crate) fn write(case: &Case) -> Bytes {
-    let mut out = Bytes::new();
-    out.push_word(case.applicants);
-    out.push_word(case.workshops);
-    for w in 0..case.workshops.min(4) {
-        out.push((case.places_of(w) & 255) as u8);
-    }
-    out.push_lists(case);
-    out.push_rows(case);
-    out
+fn push_cut(out: &mut Vec<u8>, cut: Cut) -> Result<(), AllocError> {
+    let (kind, points, lot) = match cut {
+        Cut::Open => (0, 0u16, 0u16),
+        Cut::Full { points, lot } => (1, points, lot),
+        Cut::Shut => (2, 0, 0),
+    };
+    out.push(kind)?;
+    out.extend_from_slice(&points.to_le_bytes())?;
+    out.extend_from_slice(&lot.to_le_bytes())
 }
 
-// The letter of an applicant that says a place in its list, or 255.
-pub(crate) fn letter(case: &Case, got: &Got, a: usize, place: usize) -> Bytes {
-    let mut out = Bytes::new();
-    let count = case.count_of(a).min(4);
-    out.push_word(a);
-    out.push_word(case.lot_of(a) as usize);
-    out.push(count as u8);
-    for k in 0..count {
-        if let Some(w) = case.wish(a, k) {
-            out.push_entry(case, got, w, a);
+impl Addressee<'_> {
+    // The letter that says a place in the list, or none.
+    pub(crate) fn letter(
+        &self,
+        alloc: Global,
+        place: Option<usize>,
+    ) -> Result<Vec<u8>, AllocError> {
+        let mut out = Vec::new(alloc);
+        out.extend_from_slice(&word(self.number))?;
+        out.extend_from_slice(&self.applicant.lot.to_le_bytes())?;
+        out.push(byte(self.applicant.wishes.len()))?;
+        for w in &self.applicant.wishes {
+            out.push(byte(*w))?;
+            let points = self.applicant.points_at(*w).unwrap_or(0);
+            out.extend_from_slice(&points.to_le_bytes())?;
+            push_cut(&mut out, self.round.cut_at(*w))?;
         }
+        out.push(place.map_or(NO_PLACE, byte))?;
+        Ok(out)
     }
-    out.push((place & 255) as u8);
-    out
 }

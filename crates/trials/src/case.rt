@@ -1,156 +1,124 @@
-// A small round as the trials hold it: up to 5 applicants and 4 workshops in plain arrays, and the words of the round over them.
-// Nothing of the crates under trial is used here.
+// A small round as the trials hold it, and the words of the round over it. Nothing of the crates under trial is used here.
+use std::cmp::Reverse;
 
-// A workshop's number that stands for none.
-pub const NONE: usize = 255;
+// The most applicants of a small round.
+pub const APPLICANTS: usize = 5;
 
-#[derive(Clone, Copy)]
+// What an applicant stands on at a workshop: its points, none where it has no row there, and then its lot, the lower the better.
+pub type Standing = (Option<u16>, Reverse<u16>);
+
+#[derive(Clone, Drop)]
+pub struct Applicant {
+    pub lot: u16,
+    // the workshops of its list, the dearest first
+    pub wishes: Vec<usize>,
+    // by workshop; none where it has no row
+    pub points: Vec<Option<u16>>,
+}
+
+impl Applicant {
+    pub(crate) fn points_at(&self, w: usize) -> Option<u16> {
+        self.points.get(w).copied().flatten()
+    }
+
+    // Of two applicants the one with the greater standing goes ahead at w.
+    pub(crate) fn standing_at(&self, w: usize) -> Standing {
+        (self.points_at(w), Reverse(self.lot))
+    }
+
+    // Where a workshop stands in its list.
+    pub(crate) fn place_of(&self, w: usize) -> Option<usize> {
+        self.wishes.iter().position(|v| *v == w)
+    }
+
+    // It has listed the workshop and has points there.
+    pub(crate) fn wants(&self, w: usize) -> bool {
+        self.place_of(w).is_some() && self.points_at(w).is_some()
+    }
+
+    // Whether its list has w before `than`, a workshop or none. What the list lacks comes behind all that it has.
+    pub(crate) fn is_dearer(&self, w: Option<usize>, than: Option<usize>) -> bool {
+        self.dearness_of(w) > self.dearness_of(than)
+    }
+
+    fn dearness_of(&self, w: Option<usize>) -> Option<Reverse<usize>> {
+        self.place_of(w?).map(Reverse)
+    }
+}
+
+#[derive(Clone, Drop)]
 pub struct Case {
-    pub applicants: usize,
-    pub workshops: usize,
-    pub places: [u8; 4],
-    pub lots: [u16; 5],
-    pub counts: [u8; 5],
-    // four for each applicant, of which its count are its list
-    pub lists: [u8; 20],
-    // five for each workshop, 0 for no row
-    pub points: [u16; 20],
+    // at most `APPLICANTS`
+    pub applicants: Vec<Applicant>,
+    // of each workshop
+    pub places: Vec<usize>,
 }
 
 impl Case {
-    pub(crate) fn places_of(&self, w: usize) -> usize {
-        if w < 4 { self.places[w] as usize } else { 0 }
-    }
-
-    pub(crate) fn lot_of(&self, a: usize) -> u16 {
-        if a < 5 { self.lots[a] } else { 0 }
-    }
-
-    pub(crate) fn count_of(&self, a: usize) -> usize {
-        if a < 5 { self.counts[a] as usize } else { 0 }
-    }
-
-    pub(crate) fn points_of(&self, w: usize, a: usize) -> u16 {
-        if w < 4 && a < 5 {
-            self.points[w * 5 + a]
-        } else {
-            0
-        }
-    }
-
-    // What stands at a position of an applicant's list.
-    pub(crate) fn wish(&self, a: usize, k: usize) -> Option<usize> {
-        if a < 5 && k < 4 && k < self.count_of(a) {
-            Some(self.lists[a * 4 + k] as usize)
-        } else {
-            None
-        }
-    }
-
-    // Where a workshop stands in an applicant's list.
-    pub(crate) fn position(&self, a: usize, w: usize) -> Option<usize> {
-        for k in 0..4 {
-            if let Some(v) = self.wish(a, k) {
-                if v == w {
-                    return Some(k);
-                }
-            }
-        }
-        None
-    }
-
-    // Whether a goes ahead of b at w: more points, or as many and the lower lot.
-    pub(crate) fn ahead(&self, w: usize, a: usize, b: usize) -> bool {
-        let own = self.points_of(w, a);
-        let other = self.points_of(w, b);
-        own > other || (own == other && self.lot_of(a) < self.lot_of(b))
-    }
-
-    // Whether somebody's list has w before `than`, a workshop or none.
-    pub(crate) fn dearer(&self, a: usize, w: usize, than: usize) -> bool {
-        match (self.position(a, w), self.position(a, than)) {
-            (Some(k), Some(j)) => k < j,
-            (Some(_), None) => true,
-            (None, _) => false,
-        }
-    }
-
-    pub(crate) fn set_points(&mut self, w: usize, a: usize, points: u16) {
-        if w < 4 && a < 5 {
-            self.points[w * 5 + a] = points;
-        }
-    }
-
-    pub(crate) fn set_lot(&mut self, a: usize, lot: u16) {
-        if a < 5 {
-            self.lots[a] = lot;
-        }
-    }
-
-    pub(crate) fn set_places(&mut self, w: usize, places: u8) {
-        if w < 4 {
-            self.places[w] = places;
-        }
-    }
-
-    pub(crate) fn clear_list(&mut self, a: usize) {
-        if a < 5 {
-            self.counts[a] = 0;
-        }
-    }
-
-    // Adds a workshop at the end of a list, where there is room.
-    pub(crate) fn add_wish(&mut self, a: usize, w: u8) {
-        if a < 5 {
-            let k = self.counts[a] as usize;
-            if k < 4 {
-                self.lists[a * 4 + k] = w;
-                self.counts[a] = k as u8 + 1;
-            }
-        }
+    pub(crate) fn places_at(&self, w: usize) -> usize {
+        self.places.get(w).copied().unwrap_or(0)
     }
 }
 
-// An assignment: each applicant's workshop, or none.
-#[derive(Clone, Copy)]
+// Who got what: each applicant's workshop, or none, as for applicants that the round does not have.
+#[derive(Clone, Copy, PartialEq, Eq)]
 pub struct Got {
-    pub workshops: [u8; 5],
+    pub workshops: [Option<usize>; APPLICANTS],
 }
 
 impl Got {
     pub(crate) fn nothing() -> Got {
         Got {
-            workshops: [255; 5],
+            workshops: [None; APPLICANTS],
         }
     }
 
-    pub(crate) fn of(&self, a: usize) -> usize {
-        if a < 5 {
-            self.workshops[a] as usize
-        } else {
-            NONE
+    pub(crate) fn of(&self, a: usize) -> Option<usize> {
+        self.workshops.get(a).copied().flatten()
+    }
+
+    pub(crate) fn set(&mut self, a: usize, w: Option<usize>) {
+        if let Some(workshop) = self.workshops.get_mut(a) {
+            *workshop = w;
         }
     }
 
-    pub(crate) fn set(&mut self, a: usize, w: usize) {
-        if a < 5 {
-            self.workshops[a] = w.min(NONE) as u8;
-        }
+    // With two applicants in each other's place.
+    pub(crate) fn swap(&mut self, a: usize, b: usize) {
+        let (w, v) = (self.of(a), self.of(b));
+        self.set(a, v);
+        self.set(b, w);
     }
 
     // How many of the applicants are placed at w.
     pub(crate) fn number_at(&self, w: usize) -> usize {
-        let mut number = 0usize;
-        for a in 0..5 {
-            if self.of(a) == w {
-                number = number.saturating_add(1);
-            }
-        }
-        number
+        self.workshops.iter().filter(|v| **v == Some(w)).count()
     }
 
     // How many of the applicants are placed.
     pub(crate) fn placed(&self) -> usize {
-        5usize.saturating_sub(self.number_at(NONE))
+        self.workshops.iter().flatten().count()
+    }
+}
+
+// A round, and who got what in it.
+#[derive(Clone, Copy)]
+pub struct Assigned<'a> {
+    pub case: &'a Case,
+    pub got: Got,
+}
+
+// One of the applicants of an assigned round, to whom a letter goes.
+#[derive(Clone, Copy)]
+pub struct Addressee<'a> {
+    pub round: Assigned<'a>,
+    pub number: usize,
+    pub applicant: &'a Applicant,
+}
+
+impl Addressee<'_> {
+    // Where in its list stands what it got.
+    pub(crate) fn place(&self) -> Option<usize> {
+        self.applicant.place_of(self.round.got.of(self.number)?)
     }
 }

@@ -1,5 +1,7 @@
 // Numbers that look random, the same for the same seed.
 
+ghost use Rattle.std.specs.Prelude.{◌<◌};
+
 #[derive(Clone, Copy)]
 pub struct Draw {
     state: u64,
@@ -23,7 +25,9 @@ impl Draw {
     }
 
     // A number below n; 0 where n is 0.
-    pub(crate) fn below(&mut self, n: usize) -> usize {
+    pub(crate) fn below(&mut self, n: usize) -> usize
+        ensures { 0 < n → result < n }
+    {
         let x = self.next() as usize;
         if n == 0 { 0 } else { x % n }
     }

@@ -1,31 +1,38 @@
 // The checker of letters beside letters that the trials write: the right place is accepted, every other one refused by its number,
 // with the right place.
-use crate::case::{Case, Got};
-use crate::{bytes, cut};
+use crate::bytes::NO_PLACE;
+use crate::case::Addressee;
 use letters::check_letter;
+use std::alloc::{AllocError, Global};
 
-// What the checker has to say of a's letter where it names a place.
-fn is_judged_well(case: &Case, got: &Got, a: usize, place: usize) -> bool {
-    let right = cut::place(case, got, a);
-    let letter = bytes::letter(case, got, a, place);
-    match check_letter(letter.written()) {
-        Ok(verdict) => {
-            place == right
-                && verdict.place.unwrap_or(255) == right
-                && verdict.applicant as usize == a
-                && verdict.lot.0 == case.lot_of(a)
-                && verdict.entries == case.count_of(a)
-        }
-        Err(refusal) => place != right && refusal.number() == 12 && refusal.place() == right,
+impl Addressee<'_> {
+    // What the checker has to say of the letter that names a place.
+    fn is_judged_well(&self, alloc: Global, place: Option<usize>) -> Result<bool, AllocError> {
+        let right = self.place();
+        let letter = self.letter(alloc, place)?;
+        Ok(match check_letter(letter.as_slice()) {
+            Ok(verdict) => {
+                place == right
+                    && verdict.place == right
+                    && usize::from(verdict.applicant) == self.number
+                    && verdict.lot.0 == self.applicant.lot
+                    && verdict.entries == self.applicant.wishes.len()
+            }
+            Err(refusal) => {
+                place != right
+                    && refusal.number() == 12
+                    && refusal.place() == right.unwrap_or(usize::from(NO_PLACE))
+            }
+        })
     }
-}
 
-// The same of every place that the list has, and of none.
-pub(crate) fn are_judged_well(case: &Case, got: &Got, a: usize) -> bool {
-    for place in 0..case.count_of(a) {
-        if !is_judged_well(case, got, a, place) {
-            return false;
+    // The same of every place that the list has, and of none.
+    pub(crate) fn are_judged_well(&self, alloc: Global) -> Result<bool, AllocError> {
+        for place in (0..self.applicant.wishes.len()).map(Some).chain([None]) {
+            if !self.is_judged_well(alloc, place)? {
+                return Ok(false);
+            }
         }
+        Ok(true)
     }
-    is_judged_well(case, got, a, 255)
 }

@@ -1,147 +1,139 @@
 // Random small rounds, of two shapes. Open ones: few points to choose from, so that many are equal, and any number of places.
 // Crossed ones: one place each, long lists, and workshops that like those best who like them least, so that there are several
 // stable assignments. Lots lie on both sides of a byte's end.
-use crate::case::Case;
+use crate::case::{APPLICANTS, Applicant, Case};
 use crate::draw::Draw;
+use std::alloc::{AllocError, Global};
 
-pub(crate) fn blank(applicants: usize, workshops: usize) -> Case {
-    Case {
-        applicants,
-        workshops,
-        places: [0; 4],
-        lots: [0; 5],
-        counts: [0; 5],
-        lists: [0; 20],
-        points: [0; 20],
-    }
+// The places of a workshop, of which one is drawn.
+const PLACES: [usize; 10] = [0, 2, 2, 3, 1, 1, 1, 1, 1, 1];
+
+const LOTS: [[u16; APPLICANTS]; 3] = [
+    [1, 2, 3, 4, 5],
+    [252, 254, 256, 258, 260],
+    [0, 16383, 32766, 49149, 65532],
+];
+
+// What the applicants of an open round are given, by how many of them are given as much as another.
+#[derive(Clone, Copy)]
+enum Way {
+    All,
+    Most,
+    Many,
+    Few,
 }
 
-fn draw_places(case: &mut Case, draw: &mut Draw) {
-    for w in 0..case.workshops {
-        let places = match draw.below(10) {
-            0 => 0,
-            1 => 2,
-            2 => 2,
-            3 => 3,
-            _ => 1,
-        };
-        case.set_places(w, places);
+const WAYS: [Way; 4] = [Way::All, Way::Most, Way::Many, Way::Few];
+
+fn draw_lots(draw: &mut Draw) -> [u16; APPLICANTS] {
+    let mut lots = LOTS[draw.below(LOTS.len())];
+    for a in 0..APPLICANTS {
+        let b = draw.below(APPLICANTS);
+        lots.swap(a, b);
     }
+    lots
 }
 
-fn swap_lots(case: &mut Case, a: usize, b: usize) {
-    let lot = case.lot_of(a);
-    let other = case.lot_of(b);
-    case.set_lot(a, other);
-    case.set_lot(b, lot);
-}
-
-fn draw_lots(case: &mut Case, draw: &mut Draw) {
-    let (first, step) = match draw.below(3) {
-        0 => (1u16, 1u16),
-        1 => (252, 2),
-        _ => (0, 16383),
-    };
-    let mut lot = first;
-    for a in 0..5 {
-        case.set_lot(a, lot);
-        lot = lot.wrapping_add(step);
-    }
-    for a in 0..5 {
-        let b = draw.below(5);
-        swap_lots(case, a, b);
-    }
-}
-
-// Another list for one applicant: as many workshops as come up in the tries, none twice.
-pub(crate) fn draw_list(case: &mut Case, a: usize, tries: usize, draw: &mut Draw) {
-    case.clear_list(a);
+// A list: as many workshops as come up in the tries, none twice.
+pub(crate) fn draw_wishes(
+    alloc: Global,
+    workshops: usize,
+    tries: usize,
+    draw: &mut Draw,
+) -> Result<Vec<usize>, AllocError> {
+    let mut wishes = Vec::new(alloc);
     for _ in 0..tries {
-        let w = draw.below(case.workshops);
-        if case.position(a, w).is_none() {
-            case.add_wish(a, (w & 3) as u8);
+        let w = draw.below(workshops);
+        if !wishes.contains(&w) {
+            wishes.push(w)?;
         }
     }
+    Ok(wishes)
 }
 
-// What an applicant is given at a workshop, 0 for no row, in one of four ways that differ in how many are equal.
-fn some_points(way: usize, draw: &mut Draw) -> u16 {
+// What an applicant is given at a workshop; none for no row.
+fn draw_points(way: Way, draw: &mut Draw) -> Option<u16> {
     if draw.below(7) == 0 {
-        return 0;
+        return None;
     }
-    match way {
-        0 => 7,
-        1 => 1 + (draw.below(2) & 1) as u16,
-        2 => 254 + (draw.below(4) & 3) as u16,
-        _ => 65535 - (draw.below(1000) & 1023) as u16,
-    }
+    Some(match way {
+        Way::All => 7,
+        Way::Most => 1 + draw.below(2) as u16,
+        Way::Many => 254 + draw.below(4) as u16,
+        Way::Few => 65535 - draw.below(1000) as u16,
+    })
 }
 
-fn open_case(applicants: usize, workshops: usize, draw: &mut Draw) -> Case {
-    let mut case = blank(applicants, workshops);
-    draw_places(&mut case, draw);
-    let way = draw.below(4);
-    for a in 0..applicants {
-        let tries = draw.below(9);
-        draw_list(&mut case, a, tries, draw);
-        for w in 0..workshops {
-            case.set_points(w, a, some_points(way, draw));
-        }
-    }
-    case
-}
-
-// The later a workshop stands in the list, the more points; now and then as many as for the place before.
-fn crossed_case(size: usize, draw: &mut Draw) -> Case {
-    let mut case = blank(size, size);
-    for a in 0..size {
-        case.set_places(a, 1);
-        draw_list(&mut case, a, 10, draw);
-        for w in 0..size {
-            let position = case.position(a, w).unwrap_or(4) & 7;
-            case.set_points(w, a, (2 + 2 * position - (draw.below(3) & 1)) as u16);
-        }
-    }
-    case
-}
-
-pub(crate) fn draw_case(draw: &mut Draw) -> Case {
-    let shape = draw.below(3);
-    let applicants = draw.below(6).max(draw.below(6));
-    let workshops = draw.below(4).max(draw.below(4)).min(3) + 1;
-    let mut case = match shape {
-        0 => crossed_case(workshops, draw),
-        _ => open_case(applicants, workshops, draw),
+fn open_case(
+    alloc: Global,
+    applicants: usize,
+    workshops: usize,
+    draw: &mut Draw,
+) -> Result<Case, AllocError> {
+    let mut case = Case {
+        applicants: Vec::new(alloc),
+        places: (0..workshops)
+            .map(|_| PLACES[draw.below(PLACES.len())])
+            .collect(alloc)?,
     };
-    draw_lots(&mut case, draw);
-    case
-}
-
-// The round with two applicants in each other's place.
-pub(crate) fn swap_applicants(case: &mut Case, a: usize, b: usize) {
-    let before = *case;
-    swap_lots(case, a, b);
-    copy_list(case, a, &before, b);
-    copy_list(case, b, &before, a);
-    for w in 0..4 {
-        case.set_points(w, a, before.points_of(w, b));
-        case.set_points(w, b, before.points_of(w, a));
+    let way = WAYS[draw.below(WAYS.len())];
+    for _ in 0..applicants {
+        let tries = draw.below(9);
+        case.applicants.push(Applicant {
+            lot: 0,
+            wishes: draw_wishes(alloc, workshops, tries, draw)?,
+            points: (0..workshops)
+                .map(|_| draw_points(way, draw))
+                .collect(alloc)?,
+        })?;
     }
+    Ok(case)
 }
 
-// Applicant a gets the list that b has in another round.
-fn copy_list(case: &mut Case, a: usize, from: &Case, b: usize) {
-    case.clear_list(a);
-    for k in 0..4 {
-        if let Some(w) = from.wish(b, k) {
-            case.add_wish(a, (w & 255) as u8);
-        }
+// The later the place in the list, the more points; now and then fewer by one.
+fn crossed_points(place: Option<usize>, draw: &mut Draw) -> u16 {
+    let later = place.unwrap_or(4).min(4) as u16;
+    2 + 2 * later - draw.below(3) as u16 % 2
+}
+
+fn crossed_case(alloc: Global, size: usize, draw: &mut Draw) -> Result<Case, AllocError> {
+    let mut case = Case {
+        applicants: Vec::new(alloc),
+        places: vec![in alloc; 1; size]?,
+    };
+    for _ in 0..size {
+        let mut applicant = Applicant {
+            lot: 0,
+            wishes: draw_wishes(alloc, size, 10, draw)?,
+            points: Vec::new(alloc),
+        };
+        applicant.points = (0..size)
+            .map(|w| Some(crossed_points(applicant.place_of(w), draw)))
+            .collect(alloc)?;
+        case.applicants.push(applicant)?;
     }
+    Ok(case)
 }
 
-// The round with the lots the other way round, whose highest was drawn first.
+pub(crate) fn draw_case(alloc: Global, draw: &mut Draw) -> Result<Case, AllocError> {
+    let crossed = draw.below(3) == 0;
+    let applicants = draw.below(APPLICANTS + 1).max(draw.below(APPLICANTS + 1));
+    let workshops = draw.below(4).max(draw.below(4)).min(3) + 1;
+    let mut case = if crossed {
+        crossed_case(alloc, workshops, draw)?
+    } else {
+        open_case(alloc, applicants, workshops, draw)?
+    };
+    let lots = draw_lots(draw);
+    for (applicant, lot) in case.applicants.iter_mut().zip(&lots) {
+        applicant.lot = *lot;
+    }
+    Ok(case)
+}
+
+// The lots the other way round, whose highest was drawn first.
 pub(crate) fn turn_lots(case: &mut Case) {
-    for a in 0..5 {
-        case.set_lot(a, 65535 - case.lot_of(a));
+    for applicant in case.applicants.iter_mut() {
+        applicant.lot = u16::MAX - applicant.lot;
     }
 }

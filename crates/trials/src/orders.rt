@@ -1,73 +1,67 @@
 // Asking to the end, twice: all together step by step as it is defined, and one by one in a random order with benches.
-use crate::case::{Case, Got, NONE};
-use crate::cut::last_at;
+use crate::case::{APPLICANTS, Applicant, Assigned, Case, Got};
 use crate::draw::Draw;
 
 // Who got what, and how many list entries were asked.
-#[derive(Clone, Copy)]
+#[derive(Clone, Copy, PartialEq, Eq)]
 pub struct Ended {
     pub got: Got,
     pub asks: usize,
 }
 
-impl Ended {
-    pub(crate) fn same(&self, other: &Ended) -> bool {
-        for a in 0..5 {
-            if self.got.of(a) != other.got.of(a) {
-                return false;
-            }
-        }
-        self.asks == other.asks
-    }
-}
-
 // Each applicant's position in its own list; the list's length where it is used up.
 #[derive(Clone, Copy)]
 struct State {
-    at: [usize; 5],
+    at: [usize; APPLICANTS],
 }
 
 impl State {
+    fn first() -> State {
+        State {
+            at: [0; APPLICANTS],
+        }
+    }
+
     fn of(&self, a: usize) -> usize {
-        if a < 5 { self.at[a] } else { 0 }
+        self.at.get(a).copied().unwrap_or(0)
     }
 
     fn move_on(&mut self, a: usize) {
-        if a < 5 {
-            self.at[a] = self.at[a].saturating_add(1);
+        if let Some(at) = self.at.get_mut(a) {
+            *at = at.saturating_add(1);
         }
     }
 
-    fn has_asked(&self, case: &Case, b: usize, w: usize) -> bool {
-        match case.position(b, w) {
-            Some(k) => k <= self.of(b) && case.points_of(w, b) > 0,
-            None => false,
-        }
+    // The workshop at an applicant's position.
+    fn wish(&self, case: &Case, a: usize) -> Option<usize> {
+        case.applicants.get(a)?.wishes.get(self.of(a)).copied()
     }
 
-    // How many of those who have asked w, and have points there, go ahead of a.
-    fn rivals(&self, case: &Case, w: usize, a: usize) -> usize {
-        let mut number = 0usize;
-        for b in 0..5 {
-            if self.has_asked(case, b, w) && case.ahead(w, b, a) {
-                number = number.saturating_add(1);
-            }
-        }
-        number
+    // How many of those who have asked w, and have points there, go ahead of the applicant.
+    fn rivals(&self, case: &Case, w: usize, applicant: &Applicant) -> usize {
+        case.applicants
+            .iter()
+            .zip(&self.at)
+            .filter(|(other, at)| {
+                other.points_at(w).is_some()
+                    && other.place_of(w).is_some_and(|k| k <= **at)
+                    && other.standing_at(w) > applicant.standing_at(w)
+            })
+            .count()
     }
 
-    fn is_turned_down(&self, case: &Case, a: usize) -> bool {
-        match case.wish(a, self.of(a)) {
-            Some(w) => case.points_of(w, a) == 0 || self.rivals(case, w, a) >= case.places_of(w),
-            None => false,
-        }
+    fn is_turned_down(&self, case: &Case, applicant: &Applicant, at: usize) -> bool {
+        applicant.wishes.get(at).is_some_and(|w| {
+            applicant.points_at(*w).is_none()
+                || self.rivals(case, *w, applicant) >= case.places_at(*w)
+        })
     }
 
     fn step(&self, case: &Case) -> State {
         let mut next = *self;
-        for a in 0..5 {
-            if self.is_turned_down(case, a) {
-                next.move_on(a);
+        for (applicant, at) in case.applicants.iter().zip(next.at.iter_mut()) {
+            if self.is_turned_down(case, applicant, *at) {
+                *at = at.saturating_add(1);
             }
         }
         next
@@ -76,12 +70,9 @@ impl State {
     fn ended(&self, case: &Case) -> Ended {
         let mut got = Got::nothing();
         let mut asks = 0usize;
-        for a in 0..5 {
-            let at = self.of(a);
-            if let Some(w) = case.wish(a, at) {
-                got.set(a, w);
-            }
-            asks = asks.saturating_add(at.saturating_add(1).min(case.count_of(a)));
+        for (a, applicant) in case.applicants.iter().enumerate() {
+            got.set(a, self.wish(case, a));
+            asks = asks.saturating_add(self.of(a).saturating_add(1).min(applicant.wishes.len()));
         }
         Ended { got, asks }
     }
@@ -89,49 +80,51 @@ impl State {
 
 // All who are turned down move on together; 20 steps are as many as there can be entries.
 pub(crate) fn together(case: &Case) -> Ended {
-    let mut state = State { at: [0; 5] };
+    let mut state = State::first();
     for _ in 0..20 {
         state = state.step(case);
     }
     state.ended(case)
 }
 
-// Somebody who sits on no bench and has entries left, looked for from a random applicant on.
-fn free(case: &Case, asked: &State, got: &Got, draw: &mut Draw) -> Option<usize> {
-    let first = draw.below(5);
-    for k in 0..5 {
-        let a = (first % 5 + k) % 5;
-        if got.of(a) == NONE && asked.of(a) < case.count_of(a) {
-            return Some(a);
-        }
-    }
-    None
+// Somebody who sits on no bench and has entries left, looked for from a random applicant on, and the workshop that it asks next.
+fn next_to_ask(case: &Case, asked: &State, got: &Got, draw: &mut Draw) -> Option<(usize, usize)> {
+    let first = draw.below(APPLICANTS);
+    (first..APPLICANTS)
+        .chain(0..first)
+        .filter(|a| got.of(*a).is_none())
+        .find_map(|a| asked.wish(case, a).map(|w| (a, w)))
 }
 
-// a sits down on the bench of w, and the last gets up where there are too many.
-fn sit_down(case: &Case, got: &mut Got, w: usize, a: usize) {
-    if case.points_of(w, a) > 0 {
-        got.set(a, w);
-        if got.number_at(w) > case.places_of(w) {
-            if let Some(b) = last_at(case, got, w) {
-                got.set(b, NONE);
-            }
+// The applicant sits down on the bench of w, if it has points there, and the last gets up where there are too many.
+fn sit_down(round: &mut Assigned, w: usize, a: usize) {
+    let applicant = round.case.applicants.get(a);
+    if applicant.is_some_and(|applicant| applicant.points_at(w).is_some()) {
+        round.got.set(a, Some(w));
+        if round.got.number_at(w) > round.case.places_at(w)
+            && let Some((last, _)) = round.last_at(w)
+        {
+            round.got.set(last, None);
         }
     }
 }
 
 pub(crate) fn one_by_one(case: &Case, draw: &mut Draw) -> Ended {
-    let mut got = Got::nothing();
-    let mut asked = State { at: [0; 5] };
+    let mut round = Assigned {
+        case,
+        got: Got::nothing(),
+    };
+    let mut asked = State::first();
     let mut asks = 0usize;
     for _ in 0..25 {
-        if let Some(a) = free(case, &asked, &got, draw) {
-            if let Some(w) = case.wish(a, asked.of(a)) {
-                sit_down(case, &mut got, w, a);
-            }
+        if let Some((a, w)) = next_to_ask(case, &asked, &round.got, draw) {
             asked.move_on(a);
             asks = asks.saturating_add(1);
+            sit_down(&mut round, w, a);
         }
     }
-    Ended { got, asks }
+    Ended {
+        got: round.got,
+        asks,
+    }
 }

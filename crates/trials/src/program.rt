@@ -1,116 +1,84 @@
 // The program under trial: a round's bytes are read, applicants ask to the end, and cuts and letters are made. What it says is put
 // into the trials' own words here, and nowhere else.
-use crate::case::{Case, Got};
+use crate::bytes::{self, NO_PLACE};
+use crate::case::{Addressee, Assigned, Case, Got};
 use crate::cut::Cut;
 use crate::orders::Ended;
-use crate::{bytes, cut};
-use asking::{Desk, Outcome, run};
+use crate::tally::Check;
+use asking::{Desk, Left, Outcome, run};
 use codec::{Round, Space, read};
 use cuts::cut_of;
-use layout::{Lot, Points, Refusal};
+use layout::{Lot, Points};
 use letters::write_letter;
+use std::alloc::{AllocError, Global};
 
 // What the program says of a round: who got what, the number of asks, the cuts, and whether its letters are those that the trials
 // write for this result.
-#[derive(Clone, Copy)]
+#[derive(Drop)]
 pub struct Answer {
     pub ended: Ended,
     pub letters: bool,
-    cuts: [Cut; 4],
+    pub cuts: Vec<Cut>,
 }
 
-impl Answer {
-    pub(crate) fn cut(&self, w: usize) -> Cut {
-        if w < 4 { self.cuts[w] } else { cut::OPEN }
-    }
-}
-
-// What the program leaves in the slices that it is lent.
+// What the program reads and leaves of a round.
 #[derive(Clone, Copy)]
-struct Left {
-    rows: [u32; 20],
-    results: [u16; 5],
-    benches: [u32; 12],
+struct Settled<'a> {
+    round: &'a Round<'a>,
+    left: Left<'a>,
 }
 
-// Who got what; none where a position is not one of the list.
-fn got_of(case: &Case, left: &Left) -> Option<Got> {
-    let mut got = Got::nothing();
-    for a in 0..case.applicants.min(5) {
-        let k = left.results[a] as usize;
-        if k != 255 {
-            let Some(w) = case.wish(a, k) else {
-                return None;
+impl Settled<'_> {
+    // Who got what; none where a position is not one of the list.
+    fn got(&self, case: &Case) -> Option<Got> {
+        let mut got = Got::nothing();
+        for (a, (applicant, k)) in case.applicants.iter().zip(self.left.results).enumerate() {
+            if *k != u16::from(NO_PLACE) {
+                got.set(a, Some(*applicant.wishes.get(usize::from(*k))?));
+            }
+        }
+        Some(got)
+    }
+
+    fn cuts(&self, alloc: Global) -> Result<Vec<Cut>, Check> {
+        let mut cuts = Vec::new(alloc);
+        let seats = self.round.seats;
+        for (from, to) in seats.iter().zip(seats.iter().skip(1)) {
+            let bench = self.left.benches.get(*from as usize..*to as usize);
+            cuts.push(match cut_of(bench.ok_or(Check::Settled)?, self.round) {
+                cuts::Cut::Open => Cut::Open,
+                cuts::Cut::Shut => Cut::Shut,
+                cuts::Cut::Full(Points(points), Lot(lot)) => Cut::Full { points, lot },
+            })?;
+        }
+        Ok(cuts)
+    }
+
+    // Whether the program's letter is the one that the trials write.
+    fn is_letter_same(&self, alloc: Global, addressee: Addressee) -> Result<bool, AllocError> {
+        let mut out = [0u8; 40];
+        let len = write_letter(self.round, self.left, addressee.number, &mut out);
+        let own = addressee.letter(alloc, addressee.place())?;
+        Ok(len.is_ok_and(|len| out.get(..len) == Some(own.as_slice())))
+    }
+
+    fn are_letters_same(&self, alloc: Global, assigned: Assigned) -> Result<bool, AllocError> {
+        for (number, applicant) in assigned.case.applicants.iter().enumerate() {
+            let addressee = Addressee {
+                round: assigned,
+                number,
+                applicant,
             };
-            got.set(a, w);
+            if !self.is_letter_same(alloc, addressee)? {
+                return Ok(false);
+            }
         }
+        Ok(true)
     }
-    Some(got)
-}
-
-fn cut_seen(round: &Round, left: &Left, w: usize) -> Option<Cut> {
-    let from = *round.seats.get(w)? as usize;
-    let to = *round.seats.get(w.checked_add(1)?)? as usize;
-    if from > to || to > 12 {
-        return None;
-    }
-    Some(match cut_of(&left.benches[from..to], round) {
-        cuts::Cut::Open => cut::OPEN,
-        cuts::Cut::Shut => cut::SHUT,
-        cuts::Cut::Full(Points(points), Lot(lot)) => Cut {
-            kind: 1,
-            points,
-            lot,
-        },
-    })
-}
-
-fn cuts_seen(case: &Case, round: &Round, left: &Left) -> Option<[Cut; 4]> {
-    let mut cuts = [cut::OPEN; 4];
-    for w in 0..case.workshops.min(4) {
-        cuts[w] = cut_seen(round, left, w)?;
-    }
-    Some(cuts)
-}
-
-fn same_bytes(xs: &[u8], ys: &[u8]) -> bool {
-    if xs.len() != ys.len() {
-        return false;
-    }
-    for (x, y) in xs.iter().zip(ys.iter()) {
-        if *x != *y {
-            return false;
-        }
-    }
-    true
-}
-
-// Whether the program's letter for a is the one that the trials write.
-fn is_letter_same(case: &Case, round: &Round, left: &Left, got: &Got, a: usize) -> bool {
-    let mut out = [0u8; 40];
-    let left = asking::Left {
-        rows: &left.rows,
-        results: &left.results,
-        benches: &left.benches,
-    };
-    let Ok(len) = write_letter(round, left, a, &mut out) else {
-        return false;
-    };
-    let own = bytes::letter(case, got, a, cut::place(case, got, a));
-    same_bytes(&out[0..len.min(40)], own.written())
-}
-
-fn are_letters_same(case: &Case, round: &Round, left: &Left, got: &Got) -> bool {
-    for a in 0..case.applicants {
-        if !is_letter_same(case, round, left, got, a) {
-            return false;
-        }
-    }
-    true
 }
 
 // What is said of a round that was read.
-fn ask_and_tell(case: &Case, round: &Round) -> Option<Answer> {
+fn ask_and_tell(alloc: Global, case: &Case, round: &Round) -> Result<Answer, Check> {
     let mut rows = [0u32; 20];
     let mut results = [0u16; 5];
     let mut benches = [0u32; 12];
@@ -119,29 +87,26 @@ fn ask_and_tell(case: &Case, round: &Round) -> Option<Answer> {
         results: &mut results,
         benches: &mut benches,
     };
-    let Ok(outcome) = run(round, &mut desk) else {
-        return None;
+    let Outcome { asks, placed } = run(round, &mut desk)?;
+    let settled = Settled {
+        round,
+        left: desk.left(),
     };
-    let Outcome { asks, placed } = outcome;
-    let left = Left {
-        rows,
-        results,
-        benches,
-    };
-    let got = got_of(case, &left)?;
-    if placed != got.placed() {
-        return None;
+    let got = settled.got(case).ok_or(Check::Settled)?;
+    let cuts = settled.cuts(alloc)?;
+    if placed != got.placed() || cuts.len() != case.places.len() {
+        return Err(Check::Settled);
     }
-    let cuts = cuts_seen(case, round, &left)?;
-    let letters = are_letters_same(case, round, &left, &got);
-    Some(Answer {
+    Ok(Answer {
         ended: Ended { got, asks },
-        letters,
+        letters: settled.are_letters_same(alloc, Assigned { case, got })?,
         cuts,
     })
 }
 
-fn read_and_answer(case: &Case, bytes: &[u8]) -> Result<Option<Answer>, Refusal> {
+// What the program says; an error where it refuses the round, or where its numbers do not fit each other.
+pub(crate) fn settle(alloc: Global, case: &Case) -> Result<Answer, Check> {
+    let bytes = bytes::write(alloc, case)?;
     let mut seats = [0u32; 5];
     let mut lots = [0u16; 5];
     let mut starts = [0u32; 6];
@@ -158,16 +123,7 @@ fn read_and_answer(case: &Case, bytes: &[u8]) -> Result<Option<Answer>, Refusal>
         row_applicants: &mut row_applicants,
         row_points: &mut row_points,
     };
-    let sizes = read(bytes, &mut space)?;
+    let sizes = read(bytes.as_slice(), &mut space)?;
     let round = Round::over(sizes, &space);
-    Ok(ask_and_tell(case, &round))
-}
-
-// What the program says; none where it refuses the round, or where its numbers do not fit each other.
-pub(crate) fn settle(case: &Case) -> Option<Answer> {
-    let bytes = bytes::write(case);
-    match read_and_answer(case, bytes.written()) {
-        Ok(answer) => answer,
-        Err(_) => None,
-    }
+    ask_and_tell(alloc, case, &round)
 }

@@ -1,106 +1,90 @@
 // Whether an assignment is stable, straight from the words, and all stable ones among all assignments.
-use crate::case::{Case, Got, NONE};
+use crate::case::{Applicant, Assigned, Case, Got};
+use std::alloc::{AllocError, Global};
 
-// Everyone placed has listed the workshop and has points there.
-fn all_wanted(case: &Case, got: &Got) -> bool {
-    for a in 0..5 {
-        let w = got.of(a);
-        if w != NONE && (case.position(a, w).is_none() || case.points_of(w, a) == 0) {
-            return false;
-        }
+impl Assigned<'_> {
+    // Everyone placed has listed the workshop and has points there.
+    fn all_wanted(&self) -> bool {
+        self.case
+            .applicants
+            .iter()
+            .zip(&self.got.workshops)
+            .all(|(applicant, own)| own.is_none_or(|w| applicant.wants(w)))
     }
-    true
-}
 
-// No workshop has more than its places.
-fn all_within(case: &Case, got: &Got) -> bool {
-    for w in 0..4 {
-        if got.number_at(w) > case.places_of(w) {
-            return false;
-        }
+    // No workshop has more than its places.
+    fn all_within(&self) -> bool {
+        self.case
+            .places
+            .iter()
+            .enumerate()
+            .all(|(w, places)| self.got.number_at(w) <= *places)
     }
-    true
-}
 
-// Somebody is placed at w who goes behind a.
-fn has_behind(case: &Case, got: &Got, w: usize, a: usize) -> bool {
-    for b in 0..5 {
-        if got.of(b) == w && case.ahead(w, a, b) {
-            return true;
-        }
+    // Somebody is placed at w who goes behind the applicant.
+    fn has_behind(&self, w: usize, applicant: &Applicant) -> bool {
+        self.case.applicants.iter().zip(&self.got.workshops).any(|(other, own)| *own == Some(w)
+            && other.standing_at(w) < applicant.standing_at(w))
     }
-    false
-}
 
-// a has points at w, which is dearer to it than what it got, and w has a place left or somebody who goes behind a.
-fn blocks(case: &Case, got: &Got, w: usize, a: usize) -> bool {
-    case.points_of(w, a) > 0
-        && case.dearer(a, w, got.of(a))
-        && (got.number_at(w) < case.places_of(w) || has_behind(case, got, w, a))
-}
-
-fn none_blocks(case: &Case, got: &Got) -> bool {
-    for a in 0..5 {
-        for w in 0..4 {
-            if blocks(case, got, w, a) {
-                return false;
-            }
-        }
+    // The applicant has points at w, which is dearer to it than its own, and w has a place left or somebody who goes behind it.
+    fn is_blocked_by(&self, w: usize, applicant: &Applicant, own: Option<usize>) -> bool {
+        applicant.points_at(w).is_some()
+            && applicant.is_dearer(Some(w), own)
+            && (self.got.number_at(w) < self.case.places_at(w) || self.has_behind(w, applicant))
     }
-    true
-}
 
-pub(crate) fn is_stable(case: &Case, got: &Got) -> bool {
-    all_wanted(case, got) && all_within(case, got) && none_blocks(case, got)
+    fn none_blocks(&self) -> bool {
+        self.case.applicants.iter().zip(&self.got.workshops).all(|(applicant, own)| {
+            !(0..self.case.places.len()).any(|w| self.is_blocked_by(w, applicant, *own))
+        })
+    }
+
+    pub(crate) fn is_stable(&self) -> bool {
+        self.all_wanted() && self.all_within() && self.none_blocks()
+    }
+
+    // Nobody has in `other` a dearer workshop than here.
+    pub(crate) fn none_dearer_in(&self, other: &Got) -> bool {
+        self.case.applicants.iter().enumerate().all(|(a, applicant)| !applicant.is_dearer(
+            other.of(a),
+            self.got.of(a),
+        ))
+    }
+
+    // The same applicants are placed nowhere as in `other`, and every workshop has the same number.
+    pub(crate) fn same_are_left_in(&self, other: &Got) -> bool {
+        self.got
+            .workshops
+            .iter()
+            .zip(&other.workshops)
+            .all(|(w, v)| w.is_none() == v.is_none())
+            && (0..self.case.places.len()).all(|w| self.got.number_at(w) == other.number_at(w))
+    }
 }
 
 // The number of all assignments of a round's applicants: each has one of the workshops, or none.
-pub(crate) fn assignments(case: &Case) -> usize {
-    let mut number = 1usize;
-    for a in 0..5 {
-        if a < case.applicants {
-            number = number.saturating_mul(case.workshops.min(4) + 1);
-        }
-    }
-    number
+fn assignments(case: &Case) -> usize {
+    case.applicants.iter().fold(1, |number: usize, _| {
+        number.saturating_mul(case.places.len() + 1)
+    })
 }
 
 // The assignment with a number: its digits to the base of one more than there are workshops.
-pub(crate) fn assignment(case: &Case, number: usize) -> Got {
-    let base = case.workshops.min(4) + 1;
+fn assignment(case: &Case, number: usize) -> Got {
+    let workshops = case.places.len();
     let mut got = Got::nothing();
     let mut rest = number;
-    for a in 0..5 {
-        let w = rest % base;
-        if a < case.applicants && w < case.workshops {
-            got.set(a, w);
-        }
-        rest /= base;
+    for (own, _) in got.workshops.iter_mut().zip(&case.applicants) {
+        *own = Some(rest % (workshops + 1)).filter(|w| *w < workshops);
+        rest /= workshops + 1;
     }
     got
 }
 
-// Nobody has in `other` a dearer workshop than in `got`.
-pub(crate) fn none_dearer(case: &Case, got: &Got, other: &Got) -> bool {
-    for a in 0..5 {
-        if case.dearer(a, other.of(a), got.of(a)) {
-            return false;
-        }
-    }
-    true
-}
-
-// The same applicants are placed nowhere, and every workshop has the same number.
-pub(crate) fn same_left(got: &Got, other: &Got) -> bool {
-    for a in 0..5 {
-        if (got.of(a) == NONE) != (other.of(a) == NONE) {
-            return false;
-        }
-    }
-    for w in 0..4 {
-        if got.number_at(w) != other.number_at(w) {
-            return false;
-        }
-    }
-    true
+pub(crate) fn stable_assignments(alloc: Global, case: &Case) -> Result<Vec<Got>, AllocError> {
+    (0..assignments(case))
+        .map(|number| assignment(case, number))
+        .filter(|got| Assigned { case, got: *got }.is_stable())
+        .collect(alloc)
 }
