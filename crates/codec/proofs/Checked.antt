@@ -64,12 +64,8 @@ module _ {b : List ℕ} {r : Reader} (s : Stands r b 0) where
       no_places : first_of (places_fault b) (workshops_in b) ≡ None
       no_places = rw (same₁, workshops_found) at (none_from_ok _ _ _ places).0
 
-      -- what the records ask
       pub records_found : r₂.at ≡ record_at r₂.bytes.now 0
       records_found = rw same₂ (omega (arith, s₂.place, workshops_found, record_at_none b))
-
-      pub workshops_there : h.workshops ≡ workshops_in r₂.bytes.now
-      workshops_there = rw same₂ workshops_found
 
       pub refused_by_records : {e : Refusal} → Fails e (first_of (record_fault r₂.bytes.now) h.applicants) → Answered b (Err e)
       refused_by_records p = refused b _ (fault_in_records b no_head no_places _ (rw (same₂, applicants_found) at (fault_from_err _ _ _ p)))

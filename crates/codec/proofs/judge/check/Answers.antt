@@ -2,7 +2,7 @@
 use Rattle.std.proofs.Common.{◌≡◌, ◌+◌, ◌*◌, arith}
 use Rattle.layout.specs.Bytes.{applicants_in, start_of}
 use Rattle.std.proofs.lemmas.Result.{err_from_is_err_and}
-use Rattle.codec.proofs.Checked.{refused_by_head, refused_by_places, refused_by_records, refused_by_row_count, refused_by_rows, refused_by_end, accepted, workshops_there, records_found, entries_found}
+use Rattle.codec.proofs.Checked.{refused_by_head, refused_by_places, refused_by_records, refused_by_row_count, refused_by_rows, refused_by_end, accepted, records_found, entries_found}
 use Rattle.codec.proofs.judge.check.Goals as goal
 use Rattle.codec.proofs.judge.check.Goals.{Else-reader-bytes}
 
@@ -16,10 +16,10 @@ returns-in_err-judge_places c =
     let p = err_from_is_err_and c.from_residual-in_err-judge_places.result c.from_residual-in_err-judge_places.ensures.1 in
     rw (p.1, p.2) (refused_by_places c.new-reader.ensures c.in_ok-head.ensures.answer c.in_ok-head.ensures.moved c.in_err-judge_places.ensures.answer)
 
-pub judge_records-requires : goal.judge_records-requires
-judge_records-requires c =
-    let p = records_found c.new-reader.ensures c.in_ok-head.ensures.answer c.in_ok-head.ensures.moved c.in_ok-judge_places.ensures.answer c.in_ok-judge_places.ensures.moved in
-    record { place = p; size = workshops_there c.new-reader.ensures c.in_ok-head.ensures.answer c.in_ok-head.ensures.moved c.in_ok-judge_places.ensures.answer c.in_ok-judge_places.ensures.moved }
+pub judge_records-requires-clause-place : goal.judge_records-requires-clause-place
+judge_records-requires-clause-place c =
+    records_found c.new-reader.ensures c.in_ok-head.ensures.answer c.in_ok-head.ensures.moved c.in_ok-judge_places.ensures.answer
+    c.in_ok-judge_places.ensures.moved
 
 pub returns-in_err-judge_records : goal.returns-in_err-judge_records
 returns-in_err-judge_records c =
