@@ -1,4 +1,5 @@
-// The sizes that bytes name, before anybody has judged them: how much to lend for reading them.
+// The sizes that bytes name, before anybody has judged them: how much to lend for reading them. No Reader serves here: it hands on
+// nothing where the bytes end, and these go on past it, also in the middle of a number.
 ghost use Rattle.std.specs.Prelude.{◌≡◌, ◌^◌, ◌<◌};
 ghost use Rattle.layout.specs.Bytes.{byte, word, sizes_in};
 
