@@ -1,6 +1,6 @@
 // The judging of the bytes of a round: the parts of the format in the order in which they stand, and in each the first fault. Nothing
 // is written.
-ghost use Rattle.std.specs.Prelude.{◌≡◌, ◌+◌, OnOk};
+ghost use Rattle.std.specs.Prelude.{◌≡◌, ◌+◌, ◌*◌, OnOk};
 ghost use Rattle.layout.specs.Slices.{outcome};
 ghost use Rattle.layout.specs.Bytes.{byte, word, first_of, head_fault, places_from, places_fault, applicants_in, workshops_in, record_at, record_fault, row_at, row_fault, fault, sizes_in};
 ghost use Rattle.codec.specs.Readers.{Stands, list_fault_at, count_fault_at, row_fault_at};
@@ -18,8 +18,8 @@ struct Head {
     workshops: usize,
 }
 
-// A workshop and an applicant, in the order of the rows: where a row may stand at the earliest.
-#[derive(Clone, Copy, PartialEq, Eq, PartialOrd, Ord)]
+// A workshop and an applicant: where a row may stand at the earliest.
+#[derive(Clone, Copy)]
 struct Mark {
     workshop: usize,
     applicant: usize,
@@ -161,11 +161,7 @@ fn judge_row(reader: &mut Reader, head: Head, least: Mark) -> Result<Mark, Refus
     if points == 0 {
         return Err(Refusal::BadRow(at));
     }
-    let mark = Mark {
-        workshop,
-        applicant,
-    };
-    if mark < least {
+    if workshop < least.workshop || workshop == least.workshop && applicant < least.applicant {
         return Err(Refusal::RowOrder(at));
     }
     Ok(Mark {
