@@ -53,7 +53,8 @@ fn fill_list(list: &[u8], entries: &mut [u16])
     }
 }
 
-// The lots, the lists and where each list begins. The records begin at `from`.
+// The lots, the lists and where each list begins. The records begin at `from`, and are of changing length: where the next one begins is
+// known when this one's count is read, so no part of the library goes over them.
 fn fill_lists(
     bytes: &[u8],
     from: usize,
@@ -95,7 +96,7 @@ fn open_sheets(row_starts: &mut [u32], next: usize, until: usize, row: u32)
     row_starts[next..until].fill(row);
 }
 
-// The rows, and where those of each workshop begin. The rows stand from `from` on.
+// The rows, and where those of each workshop begin. The rows stand from `from` on, five bytes each.
 fn fill_rows(
     bytes: &[u8],
     from: usize,

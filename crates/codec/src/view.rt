@@ -9,7 +9,8 @@ use crate::tables::Round;
 use layout::Sizes;
 
 impl<'a> Round<'a> {
-    // The round that lies at the front of the space. Only what was read, or else is proved to be a round, can be viewed.
+    // The round that lies at the front of the space. Only what was read, or else is proved to be a round, can be viewed: without what
+    // is required here the tables would have to be judged once more, and `read` ensures exactly this.
     pub fn over(sizes: Sizes, space: &'a Space<'_>) -> Round<'a>
         requires { Holds sizes space.now }
         ensures { tables_of result ≡ front sizes space.now }
