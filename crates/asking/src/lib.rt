@@ -162,12 +162,9 @@ fn tell(round: &Round, results: &mut [u16]) -> usize
 {
     let front = &mut results[0..round.lots.len()];
     for (a, told) in front.iter_mut().enumerate() {
-        let last = *told - 1;
-        *told = if usize::from(last) < list_len(round, a) {
-            last
-        } else {
-            NO_PLACE
-        };
+        let at = *told - 1;
+        let len = list_len(round, a);
+        *told = if usize::from(at) < len { at } else { NO_PLACE };
     }
     front.iter().filter(|told| **told != NO_PLACE).count()
 }

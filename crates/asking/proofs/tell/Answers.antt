@@ -8,22 +8,22 @@ use Rattle.codec.specs.Rounds.{tables_of}
 use Rattle.asking.specs.Asking.{told_from}
 use Rattle.asking.proofs.Tells.{is_place, getD_untold, told_more, told_place, told_none, told_all, placed_counted}
 use Rattle.asking.proofs.tell.Goals as goal
-use Rattle.asking.proofs.tell.Goals.{then-from-list_len, else-from-list_len}
+use Rattle.asking.proofs.tell.Goals.{then-from-len, else-from-len}
 
-pub overflow_sub-last : goal.overflow_sub-last
-overflow_sub-last c =
+pub overflow_sub-at : goal.overflow_sub-at
+overflow_sub-at c =
     let same = getD_untold (tables_of c.args.round.now) c.args.results.now c.loop-a.front _ c.loop-a.a (omega (arith, c.requires.room)) c.loop-a.invariant (omega arith) in
     omega (arith, same, c.requires.begun c.loop-a.a (omega arith))
 
 pub loop-a-preserved : goal.loop-a-preserved
 loop-a-preserved c =
     let room = c.requires.room in
-    let y_is : c.if-from-list_len.told ≡ told_from (tables_of c.args.round.now) c.args.results.now c.loop-a.a =
-    elim c.if-from-list_len.branch [
-      | then-from-list_len w ↦
-          w.told-is ∙ told_place (tables_of c.args.round.now) c.args.results.now c.loop-a.front _ c.loop-a.a (omega (arith, room)) c.loop-a.invariant (omega arith) (omega (arith, c.from.ensures, c.list_len.ensures, w.if-from-list_len.true))
-      | else-from-list_len w ↦
-          w.told-is ∙ told_none (tables_of c.args.round.now) c.args.results.now c.loop-a.front _ c.loop-a.a (omega (arith, room)) c.loop-a.invariant (omega arith) (omega (arith, c.from.ensures, c.list_len.ensures, w.if-from-list_len.false))
+    let y_is : c.if-from-len.told ≡ told_from (tables_of c.args.round.now) c.args.results.now c.loop-a.a =
+    elim c.if-from-len.branch [
+      | then-from-len w ↦
+          w.told-is ∙ told_place (tables_of c.args.round.now) c.args.results.now c.loop-a.front _ c.loop-a.a (omega (arith, room)) c.loop-a.invariant (omega arith) (omega (arith, c.from.ensures, c.list_len-len.ensures, w.if-from-len.true))
+      | else-from-len w ↦
+          w.told-is ∙ told_none (tables_of c.args.round.now) c.args.results.now c.loop-a.front _ c.loop-a.a (omega (arith, room)) c.loop-a.invariant (omega arith) (omega (arith, c.from.ensures, c.list_len-len.ensures, w.if-from-len.false))
     ] in
     told_more (tables_of c.args.round.now) c.args.results.now c.loop-a.front _ c.loop-a.a (omega (arith, room)) c.loop-a.invariant (omega arith) _ y_is
 
