@@ -1,8 +1,8 @@
 -- Steps of writing letters: one more piece laid behind those that lie there, one entry more, and the lengths.
-use Rattle.std.proofs.Common.{◌≡◌, ℕ, ◌+◌, ◌-◌, ◌*◌, ◌<◌, ◌≤◌, ◌≢◌, List, [], ◌∷◌, ◌++◌, length, get_or, take, drop, set, None, sym, refl, ap, ◌∙◌, append_assoc, arith, below_more}
+use Rattle.std.proofs.Common.{◌≡◌, ℕ, ◌+◌, ◌-◌, ◌*◌, ◌<◌, ◌≤◌, ◌≢◌, List, [], ◌∷◌, ◌++◌, length, get_or, take, drop, set, None, sym, refl, ap, ◌∙◌, append_assoc, add-zero, arith, below_more}
 use borrow.Rule.Slice.PartMut.{put_mid}
 use Rattle.std.specs.List.{flat_map}
-use Rattle.std.proofs.lemmas.List.{append-nil, take_rest, take_at, drop_at, drop-drop, drop_all, drop_more, set_at, get_or-set_same, get_or-set_other, length-drop, length-append, length_push, flat_map_more}
+use Rattle.std.proofs.lemmas.List.{append-nil, take_rest, take_at, drop_at, drop-drop, drop_all, drop_more, set_at, get_or-set_same, get_or-set_other, get_or-take, get_or-drop, length-drop, length-append, length_push, flat_map_more}
 use Rattle.std.proofs.lemmas.Bool.Decides.{nat_tests}
 use Rattle.layout.specs.Slices.{table, flat, over}
 use Rattle.layout.proofs.Flats.{table_more, length_table, length_flat}
@@ -51,6 +51,16 @@ letter_laid head body old first then at y e l g k h =
     ap (λ (z : List ℕ). set z at y) (over_part head body old first then 5 e l g)
     ∙ over_push (head ++ body) old at y (omega (arith, length-append head body)) h
     ∙ ap (λ (z : List ℕ). over z old) (append_assoc head body (y ∷ []))
+
+-- one item more of those that are left of a list
+pub item_more : (xs rest then : List ℕ) (i x : ℕ) → rest ≡ drop i xs → rest ≡ x ∷ then → (then ≡ drop (i + 1) xs) × (x ≡ get_or xs i 0)
+item_more xs rest then i x e f =
+    let same : x ∷ then ≡ drop i xs = sym f ∙ e in
+    (ap (drop 1) same ∙ drop-drop 1 i xs, ap (λ (z : List ℕ). get_or z 0 0) same ∙ get_or-drop i xs 0 0 ∙ ap (λ (k : ℕ). get_or xs k 0) (add-zero i))
+
+-- an item of a part of a list
+pub part_item : (xs : List ℕ) (at n i : ℕ) → i < n → get_or (take n (drop at xs)) i 0 ≡ get_or xs (at + i) 0
+part_item xs at n i h = get_or-take n (drop at xs) i 0 h ∙ get_or-drop at xs i 0
 
 -- one more place of a list is filled in
 pub filled_more : {X : Type 0} (f : ℕ → X) (xs : List X) (i : ℕ) (x d : X) → i < length xs → x ≡ f i →

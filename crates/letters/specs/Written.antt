@@ -27,14 +27,18 @@ all_seats t = slice_index t.seats (workshops t)
 abbrev pub CutsTold : Tables → List ℕ → List Cut → Type 0
 CutsTold t benches cuts = (w : ℕ) → w < workshops t → slice_index_or cuts w Open ≡ cut_of_bench t (bench_in t benches w)
 
--- what a letter says of entry k, among the entries of all lists
-abbrev pub entry_from : Tables → List ℕ → List ℕ → ℕ → Entry
-entry_from t rows benches k =
+-- what a letter says of a workshop and of the applicant's row there
+abbrev pub entry_with : Tables → List ℕ → ℕ → ℕ → Entry
+entry_with t benches w row =
     record {
-      workshop = slice_index t.entries k;
-      points = record { 0 = points_of_row t (slice_index rows k) };
-      cut = cut_of_bench t (bench_in t benches (slice_index t.entries k));
+      workshop = w;
+      points = record { 0 = points_of_row t row };
+      cut = cut_of_bench t (bench_in t benches w);
     }
+
+-- what it says of entry k, among the entries of all lists
+abbrev pub entry_from : Tables → List ℕ → List ℕ → ℕ → Entry
+entry_from t rows benches k = entry_with t benches (slice_index t.entries k) (slice_index rows k)
 
 -- the k entries from start on
 abbrev pub entries_from : Tables → List ℕ → List ℕ → ℕ → ℕ → List Entry

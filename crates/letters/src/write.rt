@@ -1,13 +1,13 @@
 // Writing the letters of a round that was asked to the end.
-ghost use Rattle.std.specs.Prelude.{◌≡◌, ◌+◌, ◌*◌, ◌<◌, ◌≤◌, length, take, IfOk, None};
+ghost use Rattle.std.specs.Prelude.{◌≡◌, ◌+◌, ◌-◌, ◌*◌, ◌<◌, ◌≤◌, length, take, IfOk, None};
 ghost use Rattle.std.specs.List.{flat_map};
 ghost use Rattle.layout.specs.Slices.{over, laid, outcome};
-ghost use Rattle.layout.specs.Tables.{applicants};
+ghost use Rattle.layout.specs.Tables.{applicants, workshops};
 ghost use Rattle.codec.specs.Rounds.{tables_of};
 ghost use Rattle.asking.specs.Ended.{no_room};
 ghost use Rattle.letters.specs.Letter.{head_bytes, entry_bytes};
 ghost use Rattle.letters.specs.Settled.{Settled, Accepted};
-ghost use Rattle.letters.specs.Written.{all_seats, CutsTold, entry_from, entries_from, letter_bytes, letter_length, letter_room, all_letters, all_length, letters_room};
+ghost use Rattle.letters.specs.Written.{all_seats, CutsTold, entry_with, entries_from, letter_bytes, letter_length, letter_room, all_letters, all_length, letters_room};
 
 use crate::entry::{Entry, Kind};
 use asking::Left;
@@ -72,10 +72,8 @@ fn all_cuts(round: &Round, benches: &[u32]) -> [Cut; 256]
     ensures { CutsTold (tables_of round.now) benches.now result }
 {
     let mut cuts = [Cut::Open; 256];
-    for w in 0..round.seats.len() - 1 {
-        let from = round.seats[w] as usize;
-        let to = round.seats[w + 1] as usize;
-        cuts[w] = cut_of(&benches[from..to], round);
+    for (w, ends) in round.seats.windows(2).enumerate() {
+        cuts[w] = cut_of(&benches[ends[0] as usize..ends[1] as usize], round);
     }
     cuts
 }
@@ -125,27 +123,30 @@ struct Writer<'r, 't, 'l> {
 }
 
 impl Writer<'_, '_, '_> {
-    // What a letter says of entry k, among the entries of all lists.
-    fn entry(&self, k: usize) -> Entry
-        requires { k < length self.now.round.now.entries.now }
-        ensures { result ≡ entry_from (tables_of self.now.round.now) self.now.left.rows.now self.now.left.benches.now k }
+    // What a letter says of a workshop and of the applicant's row there.
+    fn entry(&self, workshop: u16, row: u32) -> Entry
+        requires { workshop < workshops (tables_of self.now.round.now) }
+        ensures { result ≡ entry_with (tables_of self.now.round.now) self.now.left.benches.now workshop row }
     {
-        let workshop = self.round.entries[k];
         Entry {
             workshop: workshop as u8,
-            points: points_of(self.round, self.left.rows[k]),
+            points: points_of(self.round, row),
             cut: self.cuts[workshop as usize],
         }
     }
 
-    // Lays the entries from start on over a part.
-    fn put_entries(&self, start: usize, count: usize, part: &mut [u8])
-        requires within { start + count ≤ length self.now.round.now.entries.now }
-        requires room { 8 * count ≤ length part.old }
-        ensures { part.new ≡ over (flat_map entry_bytes (entries_from (tables_of self.now.round.now) self.now.left.rows.now self.now.left.benches.now start count)) part.old }
+    // Lays the entries from start to end over a part. With a loop over part.chunks_exact_mut(8) the proof doesn't close: it knows
+    // nothing of the bytes of a part whose chunks were lent and written.
+    fn put_entries(&self, start: usize, end: usize, part: &mut [u8])
+        requires ordered { start ≤ end }
+        requires within { end ≤ length self.now.round.now.entries.now }
+        requires room { 8 * (end - start) ≤ length part.old }
+        ensures { part.new ≡ over (flat_map entry_bytes (entries_from (tables_of self.now.round.now) self.now.left.rows.now self.now.left.benches.now start (end - start))) part.old }
     {
-        for j in 0..count {
-            part[8 * j..8 * j + 8].copy_from_slice(&bytes_of(self.entry(start + j)));
+        let rows = &self.left.rows[start..end];
+        let listed = self.round.entries[start..end].iter().zip(rows);
+        for (j, (workshop, row)) in listed.enumerate() {
+            part[8 * j..8 * j + 8].copy_from_slice(&bytes_of(self.entry(*workshop, *row)));
         }
     }
 
@@ -157,14 +158,16 @@ impl Writer<'_, '_, '_> {
     {
         let round = self.round;
         let start = round.starts[applicant] as usize;
-        let count = round.starts[applicant + 1] as usize - start;
+        let end = round.starts[applicant + 1] as usize;
+        let count = end - start;
         let [place, _] = self.left.results[applicant].to_le_bytes();
         put_head(applicant as u16, round.lots[applicant], count as u8, part);
-        self.put_entries(start, count, &mut part[5..]);
+        self.put_entries(start, end, &mut part[5..]);
         part[5 + 8 * count] = place;
     }
 
-    // Lays all letters over the front of a part.
+    // Lays all letters over the front of a part. The loop counts applicants, because an applicant's number stands in its letter and
+    // is its place in each of the round's tables.
     fn put_letters(&self, part: &mut [u8])
         requires { all_length (tables_of self.now.round.now) ≤ length part.old }
         ensures { part.new ≡ over (all_letters (tables_of self.now.round.now) self.now.left.rows.now self.now.left.results.now self.now.left.benches.now) part.old }

@@ -18,6 +18,7 @@ put_entries-requires c =
     let end = rises (λ a. get_or round.starts.now a 0) (length round.lots.now) round.started.2 (c.args.applicant + 1) (omega arith) in
     let up = round.started.2 c.args.applicant c.requires.applicant in
     record {
+      ordered = omega arith;
       within = omega (arith, round.started.4);
       room = omega (arith, length_rest c.put_head.new.part 5, c.put_head.auto.part, c.requires.room);
     }
