@@ -27,15 +27,15 @@ fn push_list(out: &mut Vec<u8>, applicant: &Applicant) -> Result<(), AllocError>
 
 // The rows by workshop, in the order of applicants: the workshop, the applicant and the points.
 fn rows(alloc: Global, case: &Case) -> Result<Vec<(usize, usize, u16)>, AllocError> {
-    let mut rows = Vec::new(alloc);
-    for w in 0..case.places.len() {
-        for (a, applicant) in case.applicants.iter().enumerate() {
-            if let Some(points) = applicant.points_at(w) {
-                rows.push((w, a, points))?;
-            }
-        }
-    }
-    Ok(rows)
+    (0..case.places.len())
+        .flat_map(|w| {
+            case.applicants.iter().enumerate().filter_map(move |(a, applicant)| Some((
+                w,
+                a,
+                applicant.points_at(w)?,
+            )))
+        })
+        .collect(alloc)
 }
 
 pub(crate) fn write(alloc: Global, case: &Case) -> Result<Vec<u8>, AllocError> {

@@ -104,7 +104,7 @@ fn worked_round(alloc: Global, line: &str, tally: &mut Tally) -> Result<(), Chec
 }
 
 fn worked_rounds(rt: &HostRuntime) -> io::Result<u64> {
-    let mut tally = Tally::new();
+    let mut tally = Tally::default();
     let mut bad = 0u64;
     for line in worked::TABLE {
         if let Err(check) = worked_round(rt.alloc(), line, &mut tally) {
@@ -121,7 +121,7 @@ fn worked_rounds(rt: &HostRuntime) -> io::Result<u64> {
 
 fn main(rt: HostRuntime) -> io::Result<()> {
     let bad_worked = worked_rounds(&rt)?;
-    let mut tally = Tally::new();
+    let mut tally = Tally::default();
     let bad = random_rounds(&rt, &mut tally)?;
     tell_rounds(&rt, &tally)?;
     tell_checks(&rt, &tally)?;

@@ -80,6 +80,7 @@ fn open_case(
     for _ in 0..applicants {
         let tries = draw.below(9);
         case.applicants.push(Applicant {
+            // drawn when the applicants are there
             lot: 0,
             wishes: draw_wishes(alloc, workshops, tries, draw)?,
             points: (0..workshops)
@@ -103,6 +104,7 @@ fn crossed_case(alloc: Global, size: usize, draw: &mut Draw) -> Result<Case, All
     };
     for _ in 0..size {
         let mut applicant = Applicant {
+            // drawn when the applicants are there
             lot: 0,
             wishes: draw_wishes(alloc, size, 10, draw)?,
             points: Vec::new(alloc),

@@ -1,6 +1,7 @@
 // Asking to the end, twice: all together step by step as it is defined, and one by one in a random order with benches.
 use crate::case::{APPLICANTS, Applicant, Assigned, Case, Got};
 use crate::draw::Draw;
+use std::array;
 
 // Who got what, and how many list entries were asked.
 #[derive(Clone, Copy, PartialEq, Eq)]
@@ -68,23 +69,26 @@ impl State {
     }
 
     fn ended(&self, case: &Case) -> Ended {
-        let mut got = Got::nothing();
-        let mut asks = 0usize;
-        for (a, applicant) in case.applicants.iter().enumerate() {
-            got.set(a, self.wish(case, a));
-            asks = asks.saturating_add(self.of(a).saturating_add(1).min(applicant.wishes.len()));
+        Ended {
+            got: Got {
+                workshops: array::from_fn(|a| self.wish(case, a)),
+            },
+            asks: case
+                .applicants
+                .iter()
+                .zip(&self.at)
+                .fold(0, |asks: usize, (applicant, at)| {
+                    asks.saturating_add(at.saturating_add(1).min(applicant.wishes.len()))
+                }),
         }
-        Ended { got, asks }
     }
 }
 
 // All who are turned down move on together; 20 steps are as many as there can be entries.
 pub(crate) fn together(case: &Case) -> Ended {
-    let mut state = State::first();
-    for _ in 0..20 {
-        state = state.step(case);
-    }
-    state.ended(case)
+    (0..20)
+        .fold(State::first(), |state, _| state.step(case))
+        .ended(case)
 }
 
 // Somebody who sits on no bench and has entries left, looked for from a random applicant on, and the workshop that it asks next.

@@ -68,8 +68,11 @@ impl From<Refusal> for Check {
     }
 }
 
+// As many as there are checks.
+const CHECKS: usize = Check::Memory as usize + 1;
+
 // How often each check was passed, and what sorts of rounds were seen.
-#[derive(Clone, Copy)]
+#[derive(Clone, Copy, Default)]
 pub struct Tally {
     pub rounds: usize,
     pub ties: usize,
@@ -77,7 +80,7 @@ pub struct Tally {
     pub several: usize,
     pub stable_seen: usize,
     // by check
-    passed: [usize; 16],
+    passed: [usize; CHECKS],
 }
 
 pub(crate) fn count(number: &mut usize) {
@@ -85,17 +88,6 @@ pub(crate) fn count(number: &mut usize) {
 }
 
 impl Tally {
-    pub(crate) fn new() -> Tally {
-        Tally {
-            rounds: 0,
-            ties: 0,
-            lots_decide: 0,
-            several: 0,
-            stable_seen: 0,
-            passed: [0; 16],
-        }
-    }
-
     pub(crate) fn times_passed(&self, check: Check) -> usize {
         self.passed[check as usize]
     }
