@@ -17,7 +17,7 @@ use Rattle.bench.proofs.Holding.{best_of_after_all}
 use Rattle.bench.proofs.Orders.{length_benches, taken_in_all}
 use Rattle.bench.proofs.Told.{number_taken_in}
 use Rattle.asking.specs.Ended.{rows_at, bench_of}
-use Rattle.asking.proofs.Tabled.{length_lists, point_of_round, places_of_round}
+use Rattle.points.proofs.Theory.{round_applicants, round_point, round_places}
 use Rattle.asking.proofs.Standings.{Of, row_found, row_worth_none, row_worth_one, row_small, row_of_applicant}
 use Rattle.asking.proofs.Gathered.{has_rows_at, rows_at_has, rows_at_apart, rows_at_more, rows_at_still, number_rows_at}
 
@@ -34,10 +34,10 @@ module _ (t : Tables) (ok : Proper t) (w : ℕ) (l : w < workshops t) where
   pub ahead_above : (X : ℕ → Bool) (a : ℕ) → a < applicants t → ahead_of (point (round_of t)) (length (round_of t).lists) w X a ≡ above (row_worth t) (worth t w a) (rows_at t X w)
   unfolding ahead_of worth
   ahead_above X a h =
-      let pa = point_of_round t w a l h in
+      let pa = round_point t w a l h in
       let none : ltb (row_worth t (row_of t w a)) (row_worth t no_row) ≡ false = rw (row_worth_none t ok) (grind (arith, nat_tests)) in
-      rw (length_lists t)
-      (count_same _ _ (applicants t) (λ b lb. let pb = point_of_round t w b l lb in rw (pa, pb))
+      rw (round_applicants t)
+      (count_same _ _ (applicants t) (λ b lb. let pb = round_point t w b l lb in rw (pa, pb))
       ∙ sym (number_rows_at t ok w l X (λ x. ltb (row_worth t (row_of t w a)) (row_worth t x)) none))
 
   -- whoever is kept sits on the bench
@@ -45,8 +45,8 @@ module _ (t : Tables) (ok : Proper t) (w : ℕ) (l : w < workshops t) where
   unfolding market market_of worth
   kept_seated X c h k =
       let f = kept_facts _ (point (round_of t)) _ w X c k in
-      let at = point_of_round t w c l h in
-      let room = places_of_round t w l in
+      let at = round_point t w c l h in
+      let room = round_places t w l in
       let many = ahead_above X c h in
       let row : row_of t w c ≢ no_row = λ e. let z = ap (row_worth t) e ∙ row_worth_none t ok in omega arith in
       let found = row_found t ok w l c row in (
@@ -63,9 +63,9 @@ module _ (t : Tables) (ok : Proper t) (w : ℕ) (l : w < workshops t) where
       let f = has_rows_at t ok w l X r k.0 in
       let c = ok.rowed.1 r (row_small t ok w l r f.0) in
       let own = row_of_applicant t ok w l r f.0 in
-      let at = point_of_round t w (get_or t.row_applicants r 0) l c in
+      let at = round_point t w (get_or t.row_applicants r 0) l c in
       let e = ap (row_worth t) own in
-      let room = places_of_round t w l in
+      let room = round_places t w l in
       let many = ahead_above X (get_or t.row_applicants r 0) c in
       let many' = ap (λ (u : ℕ). above (row_worth t) u (rows_at t X w)) e in
       let len = length_bench_of X in

@@ -25,7 +25,7 @@ module _ (t : Tables) (ok : Proper t) where
   unfolding with_list
   same_list b l =
       ap {B = places.Round} (λ (ls : List (List ℕ)). record { lists = ls; places = (round_of t).places; points = (round_of t).points })
-      (ap (set (round_of t).lists b) (sym (round_list t ok b l)) ∙ set-get_or (round_of t).lists b [])
+      (ap (set (round_of t).lists b) (sym (round_list t b l)) ∙ set-get_or (round_of t).lists b [])
 
   pub fair : Fair t
   unfolding BestStable Truthful
@@ -34,12 +34,12 @@ module _ (t : Tables) (ok : Proper t) where
         stable = subst (λ (m : ℕ → ℕ). Stable (round_of t) m) (fun_ext got_is) (best_stable (round_of t) (round_proper t ok)).0;
         dearest =
             λ m st a l.
-            let n = round_applicants t ok in
+            let n = round_applicants t in
             let best = (best_stable (round_of t) (round_proper t ok)).1 m st a (omega arith) in
-            rw (round_list t ok a l, got_is a) at best;
+            rw (round_list t a l, got_is a) at best;
         truthful =
             λ b l h ok'.
-            let n = round_applicants t ok in
+            let n = round_applicants t in
             let mine = subst (λ (r : places.Round). promise.Proper r) (sym (same_list b h)) (round_proper t ok) in
             let less = truthful (round_of t) b (list_at t b) l (omega arith) mine ok' in
             let less' : rank (list_at t b) (places.result (round_of t) b) ≤ rank (list_at t b) (places.result (with_list (round_of t) b l) b) =

@@ -14,7 +14,8 @@ use Rattle.asking.specs.Ended.{told, bench_of, bench_at, benches_at, benches_of}
 use Rattle.asking.specs.Asking.{gone, counts, at_rest, asks_so_far, ends_at, told_from, Resting}
 use Rattle.asking.proofs.Progress.{gone_asked, final_at_last}
 use Rattle.asking.proofs.Parts.{counts_at}
-use Rattle.asking.proofs.Tabled.{market_n, market_len}
+use Rattle.points.proofs.Theory.{market_n}
+use Rattle.asking.proofs.Tabled.{market_len}
 use Rattle.asking.proofs.Proper.{lawful}
 use Rattle.asking.proofs.Benched.{length_bench_of}
 use Rattle.asking.proofs.Found.{seats_rise}

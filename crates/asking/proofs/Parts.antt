@@ -7,6 +7,7 @@ use Rattle.std.proofs.lemmas.List.{get_or-take, get_or_past, get_or-set_same, ge
 use Rattle.std.proofs.lemmas.Slice.{between_is, take-put_mid_below, drop-put_mid, between-put_mid}
 use Rattle.layout.specs.Tables.{Tables, Proper, applicants, workshops, places_at}
 use Rattle.layout.proofs.Offsets.{rises}
+use Rattle.asking.proofs.Found.{seats_in_all}
 use Rattle.asking.specs.Asking.{counts, at_rest, but_for, one_more}
 
 module _ (t : Tables) (results : List ℕ) where
@@ -56,16 +57,13 @@ module _ (t : Tables) (results : List ℕ) (b : ℕ) (small : b < applicants t) 
 
 -- the parts of the workshops lie one after the other
 module _ (t : Tables) (ok : Proper t) (benches part : List ℕ) (w : ℕ) (lw : w < workshops t) (long : length part ≡ places_at t w) (room : get_or t.seats (workshops t) 0 ≤ length benches) where
-  pub seats_within : get_or t.seats (w + 1) 0 ≤ get_or t.seats (workshops t) 0
-  seats_within = rises (λ k. get_or t.seats k 0) (workshops t) ok.seated.1 (w + 1) (omega arith)
-
   pub between_same : between (get_or t.seats w 0) (get_or t.seats (w + 1) 0) (put_mid (get_or t.seats w 0) (places_at t w) benches part) ≡ part
-  between_same = let up = ok.seated.1 w lw in let in_all = seats_within in between-put_mid _ _ benches part _ (omega arith) long
+  between_same = let up = ok.seated.1 w lw in let in_all = seats_in_all t ok w lw in between-put_mid _ _ benches part _ (omega arith) long
 
   pub between_other : (q : ℕ) → q < workshops t → q ≢ w → between (get_or t.seats q 0) (get_or t.seats (q + 1) 0) (put_mid (get_or t.seats w 0) (places_at t w) benches part) ≡ between (get_or t.seats q 0) (get_or t.seats (q + 1) 0) benches
   between_other q lq ne =
       let up = ok.seated.1 w lw in
-      let in_all = seats_within in
+      let in_all = seats_in_all t ok w lw in
       elim (cases_lt q w) [
         | inl before ↦
             let apart = rises (λ k. get_or t.seats k 0) w (λ k l. ok.seated.1 k (omega arith)) (q + 1) (omega arith) in
@@ -79,8 +77,8 @@ module _ (t : Tables) (ok : Proper t) (benches part : List ℕ) (w : ℕ) (lw : 
   pub length_parts : length (put_mid (get_or t.seats w 0) (places_at t w) benches part) ≡ length benches
   length_parts =
       let up = ok.seated.1 w lw in
-      let in_all = seats_within in
+      let in_all = seats_in_all t ok w lw in
       same_len_mid _ _ benches part (long ∙ sym (length-take-le (places_at t w) (drop (get_or t.seats w 0) benches) (omega (arith, length-drop (get_or t.seats w 0) benches))))
 
   pub drop_behind : drop (get_or t.seats (workshops t) 0) (put_mid (get_or t.seats w 0) (places_at t w) benches part) ≡ drop (get_or t.seats (workshops t) 0) benches
-  drop_behind = let up = ok.seated.1 w lw in let in_all = seats_within in drop-put_mid _ _ benches part _ (omega arith) (omega arith) long
+  drop_behind = let up = ok.seated.1 w lw in let in_all = seats_in_all t ok w lw in drop-put_mid _ _ benches part _ (omega arith) (omega arith) long

@@ -2,20 +2,14 @@
 use Rattle.std.proofs.Common.{◌≡◌, ℕ, ◌+◌, ◌<◌, ◌≤◌, ◌≢◌, get_or, sym, ap, ◌∙◌, inl, inr, arith}
 use Rattle.layout.specs.Tables.{Tables, Proper, workshops, rows}
 use Rattle.points.specs.Standing.{no_row, row_of, row_worth}
-use Rattle.points.proofs.Lots.{row_worth_no_row}
+pub use Rattle.points.proofs.Lots.{row_worth_no_row as row_worth_none}
 use Rattle.points.proofs.Rows.{row_of_cases, row_of_own, to_row_le}
-use Rattle.points.proofs.Worths.{row_worth_pos, row_same}
+pub use Rattle.points.proofs.Worths.{row_worth_pos as row_worth_some}
+use Rattle.points.proofs.Worths.{row_same}
 
 -- r is a row of workshop w
 abbrev pub Of : Tables → ℕ → ℕ → Type 0
 Of t w r = (get_or t.row_starts w 0 ≤ r) × (r < get_or t.row_starts (w + 1) 0)
-
--- a row has a worth, no row has none
-pub row_worth_none : (t : Tables) → Proper t → row_worth t no_row ≡ 0
-row_worth_none = row_worth_no_row
-
-pub row_worth_some : (t : Tables) → Proper t → (r : ℕ) → r < rows t → 0 < row_worth t r
-row_worth_some = row_worth_pos
 
 module _ (t : Tables) (ok : Proper t) (w : ℕ) (l : w < workshops t) where
   pub rows_rise : get_or t.row_starts w 0 ≤ get_or t.row_starts (w + 1) 0

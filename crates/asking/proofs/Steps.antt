@@ -16,7 +16,8 @@ use Rattle.asking.specs.Ended.{bench_of}
 use Rattle.asking.specs.Asking.{gone, Going, counts, at_rest, but_for, one_more, Asking, After, asks_on}
 use Rattle.asking.proofs.Parts.{counts_at, counts_set_other, counts_one_more, rest_one_more, but_for_same, but_for_other, between_same, between_other, length_parts, drop_behind}
 use Rattle.asking.proofs.Progress.{gone_from, gone_parts, not_gone, gone_elsewhere, going_kept, going_out}
-use Rattle.asking.proofs.Tabled.{market_n, market_m, market_len, market_entry}
+use Rattle.points.proofs.Theory.{market_n, market_m}
+use Rattle.asking.proofs.Tabled.{market_len, market_entry}
 use Rattle.asking.proofs.Standings.{row_found, row_small, row_worth_none}
 use Rattle.asking.proofs.Proper.{lawful}
 use Rattle.asking.proofs.Benched.{length_bench_of, kept_seated, bench_taken_in, rowless_not_kept, others_kept, out_not_kept}

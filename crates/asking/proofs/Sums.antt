@@ -7,7 +7,8 @@ use Rattle.round.proofs.Count.{sum_mono, sum_same, sum_none}
 use Rattle.points.specs.Standing.{market}
 use Rattle.asking.specs.Asking.{counts, one_more, asks_so_far}
 use Rattle.asking.proofs.Parts.{counts_at, counts_set_same, counts_set_other}
-use Rattle.asking.proofs.Tabled.{market_n, market_len}
+use Rattle.points.proofs.Theory.{market_n}
+use Rattle.asking.proofs.Tabled.{market_len}
 
 -- one more at b alone
 pub sum_one_more : (f g : ℕ → ℕ) (b n : ℕ) → b < n → g b ≡ f b + 1 → ((c : ℕ) → c ≢ b → g c ≡ f c) → sum g n ≡ sum f n + 1

@@ -15,7 +15,7 @@ use Rattle.points.specs.Standing.{no_row, row_of, points_of_row, lot_of_row, row
 use Rattle.bench.specs.Best.{number, above}
 use Rattle.bench.proofs.Numbers.{has_here, has_there}
 use Rattle.asking.specs.Ended.{bench_of, bench_at}
-use Rattle.asking.proofs.Tabled.{length_lists, places_of_round, point_of_round}
+use Rattle.points.proofs.Theory.{round_applicants, round_places, round_point}
 use Rattle.asking.proofs.Standings.{Of, row_small, row_of_applicant, row_worth_none}
 use Rattle.asking.proofs.Proper.{lawful, round_proper}
 use Rattle.asking.proofs.Gathered.{number_rows_at}
@@ -59,7 +59,7 @@ module _ (t : Tables) (ok : Proper t) (w : ℕ) (l : w < workshops t) where
   unfolding market market_of with_points worth
   kept_with_points c h kept =
       let f = kept_facts _ (point (round_of t)) _ w X c kept in
-      let at = point_of_round t w c l h in
+      let at = round_point t w c l h in
       grind (arith, nat_tests)
 
   -- the way of keeping, with the number of places that the tables have
@@ -70,21 +70,21 @@ module _ (t : Tables) (ok : Proper t) (w : ℕ) (l : w < workshops t) where
   unfolding market market_of
   few_kept =
       let most = few (λ p. get_or (round_of t).places p 0) (point (round_of t)) (length (round_of t).lists) (round_proper t ok).points w X in
-      omega (arith, ap (count kept_of) (length_lists t), places_of_round t w l)
+      omega (arith, ap (count kept_of) (round_applicants t), round_places t w l)
 
   -- all with points are kept, or there are no places left
   full_kept : (count with_points (applicants t) ≤ count (k.keeps w X) (applicants t)) ⊎ (places_at t w ≤ count (k.keeps w X) (applicants t))
   unfolding market market_of with_points worth
   full_kept =
-      let same = ap (count kept_of) (length_lists t) in
-      let n = length_lists t in
+      let same = ap (count kept_of) (round_applicants t) in
+      let n = round_applicants t in
       elim (full (λ p. get_or (round_of t).places p 0) (point (round_of t)) (length (round_of t).lists) (round_proper t ok).points w X) [
         | inl all ↦
             inl (count_mono with_points kept_of (applicants t) (λ c h some.
-            let at = point_of_round t w c l h in
+            let at = round_point t w c l h in
             let parts : (X c ≡ true) × (0 < row_worth t (row_of t w c)) = grind (arith, nat_tests) in
             all c (omega arith) parts.0 (omega (arith, parts.1))))
-        | inr packed ↦ inr (omega (arith, places_of_round t w l))
+        | inr packed ↦ inr (omega (arith, round_places t w l))
       ]
 
   -- as many seats are taken as applicants are placed

@@ -12,7 +12,8 @@ use Rattle.points.specs.Standing.{no_row, row_of, points_of_row, lot_of_row, row
 use Rattle.bench.specs.Best.{above}
 use Rattle.bench.proofs.Numbers.{number_le, number_has}
 use Rattle.asking.specs.Ended.{told, bench_of, bench_at, rows_at}
-use Rattle.asking.proofs.Tabled.{market_m, market_len, market_entry, getD_list}
+use Rattle.points.proofs.Theory.{market_m}
+use Rattle.asking.proofs.Tabled.{market_len, market_entry, getD_list}
 use Rattle.asking.proofs.Standings.{row_found, row_small, row_worth_none, row_worth_some}
 use Rattle.asking.proofs.Proper.{lawful}
 use Rattle.asking.proofs.Gathered.{rows_at_has}

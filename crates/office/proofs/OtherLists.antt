@@ -85,7 +85,7 @@ module _ (t u : Tables) (pt : Proper t) (pu : Proper u) (a : ℕ) (l : a < appli
   pub no_list_gains : rank (list_at t a) (got (market t) a) ≤ rank (list_at t a) (got (market u) a)
   unfolding GivenTruthful
   no_list_gains =
-      let n = round_applicants t pt in
+      let n = round_applicants t in
       let self = round_other t t a (other_self t a) l in
       let own = subst (λ (r : Round). promise.Proper r) self (round_proper t pt) in
       let least = promised.truthful (round_of t) a (list_at t a) (list_at u a) (omega arith) own proper_other in
@@ -95,7 +95,7 @@ module _ (t u : Tables) (pt : Proper t) (pu : Proper u) (a : ℕ) (l : a < appli
   pub nobody_gains : list_length t a ≡ 0 → (c : ℕ) → c < applicants t → c ≢ a → rank (list_at t c) (got (market t) c) ≤ rank (list_at t c) (got (market u) c)
   unfolding MoreApplicants
   nobody_gains none c lc ne =
-      let n = round_applicants t pt in
-      let empty = round_list t pt a l ∙ no_list (list_at t a) (length_list_at t pt a l ∙ none) in
+      let n = round_applicants t in
+      let empty = round_list t a l ∙ no_list (list_at t a) (length_list_at t pt a l ∙ none) in
       let least = promised.more_applicants (round_of t) c a (list_at u a) (round_proper t pt) proper_other (omega arith) (omega arith) ne empty in
-      in_words c (list_at t c) (subst (λ (x : List ℕ). rank x (result (round_of t) c) ≤ rank x (result (with_list (round_of t) a (list_at u a)) c)) (round_list t pt c lc) least)
+      in_words c (list_at t c) (subst (λ (x : List ℕ). rank x (result (round_of t) c) ≤ rank x (result (with_list (round_of t) a (list_at u a)) c)) (round_list t c lc) least)

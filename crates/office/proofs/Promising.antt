@@ -41,11 +41,11 @@ module _ (t : Tables) (proper : Proper t) where
   unfolding GivenBest
   best_stable =
       let given = promised.best_stable (round_of t) (round_proper t proper) in
-      let n = round_applicants t proper in (
+      let n = round_applicants t in (
         subst (λ (m : ℕ → ℕ). Stable (round_of t) m) got_result given.0,
         λ m st a l.
             let least = given.1 m st a (omega arith) in
-            let dear = subst (λ (x : List ℕ). rank x (result (round_of t) a) ≤ rank x (m a)) (round_list t proper a l) least in
+            let dear = subst (λ (x : List ℕ). rank x (result (round_of t) a) ≤ rank x (m a)) (round_list t a l) least in
             subst (λ (g : ℕ → ℕ). rank (list_at t a) (g a) ≤ rank (list_at t a) (m a)) got_result dear,
       )
 
@@ -53,8 +53,8 @@ module _ (t : Tables) (proper : Proper t) where
   unfolding GivenLeft nowhere
   same_left m n sm sn =
       let left = promised.same_left (round_of t) m n (round_proper t proper) sm sn in
-      let many = round_applicants t proper in
-      let all = round_workshops t proper in (
+      let many = round_applicants t in
+      let all = round_workshops t in (
         λ a l e. left.0 a (omega arith) (e ∙ sym all) ∙ all,
         λ w l. subst (λ (k : ℕ). given m w k ≡ given n w k) many (left.1 w (omega arith)),
       )

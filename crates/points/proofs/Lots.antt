@@ -6,24 +6,8 @@ use Rattle.std.proofs.lemmas.Bool.{cond_both, ltb-true}
 use Rattle.std.proofs.lemmas.Bool.Decides.{nat_tests}
 use Rattle.round.specs.ByPoints.{worth_of}
 use Rattle.layout.specs.Tables.{Tables, Proper, rows}
-use Rattle.codec.specs.declared.tables.Round.{Round}
-use Rattle.codec.specs.Rounds.{tables_of}
+pub use Rattle.codec.proofs.Rounds.{proper_round as tables_proper}
 use Rattle.points.specs.Standing.{lot_of_row, row_worth, no_row}
-
-pub tables_proper : (r : Round) → Proper (tables_of r)
-tables_proper r =
-    record {
-      limited = r.limited;
-      seated = r.seated;
-      started = r.started;
-      named = r.named;
-      distinct = r.distinct;
-      drawn = r.drawn;
-      apart = r.apart;
-      sheeted = r.sheeted;
-      rowed = r.rowed;
-      sorted = r.sorted;
-    }
 
 pub lot_small : (t : Tables) → Proper t → (i : ℕ) → lot_of_row t i < 65536
 lot_small t good i =

@@ -20,16 +20,7 @@ use Rattle.points.proofs.Worths.{worth_same}
 keeps_same : (x : Bool) (p q c d k l : ℕ) → p ≡ q → c ≡ d → k ≡ l → (x && (ltb 0 p && ltb c k)) ≡ (x && (ltb 0 q && ltb d l))
 keeps_same x p q c d k l e f g = cc
 
-module _ (t : Tables) (good : Proper t) where
-  pub getD_list_at : (a j d : ℕ) → a < applicants t → j < list_length t a → get_or (list_at t a) j d ≡ get_or t.entries (get_or t.starts a 0 + j) 0
-  getD_list_at a j d h l =
-      get_or_default (list_at t a) j d 0 (omega (arith, length_list_at t good a h))
-      ∙ proper.getD_list_at t good a j l
-
-  -- lists name workshops
-  pub list_named : (a j d : ℕ) → a < applicants t → j < list_length t a → get_or (list_at t a) j d < workshops t
-  list_named a j d h l = rw (getD_list_at a j d h l) (good.named _ (omega (arith, starts_le t good a h)))
-
+module _ (t : Tables) where
   -- the parts of the round
   pub round_applicants : length (round_of t).lists ≡ applicants t
   unfolding round_of
@@ -53,6 +44,25 @@ module _ (t : Tables) (good : Proper t) where
       ap (λ (xs : List ℕ). get_or xs a 0) (getD_table (λ p. table (worth t p) (applicants t)) (workshops t) w [] hw)
       ∙ getD_table (worth t w) (applicants t) a 0 ha
 
+  -- The market of the tables, by the tables.
+  pub market_n : (market t).n ≡ applicants t
+  unfolding market market_of
+  market_n = round_applicants
+
+  pub market_m : (market t).m ≡ workshops t
+  unfolding market market_of
+  market_m = round_workshops
+
+module _ (t : Tables) (good : Proper t) where
+  pub getD_list_at : (a j d : ℕ) → a < applicants t → j < list_length t a → get_or (list_at t a) j d ≡ get_or t.entries (get_or t.starts a 0 + j) 0
+  getD_list_at a j d h l =
+      get_or_default (list_at t a) j d 0 (omega (arith, length_list_at t good a h))
+      ∙ proper.getD_list_at t good a j l
+
+  -- lists name workshops
+  pub list_named : (a j d : ℕ) → a < applicants t → j < list_length t a → get_or (list_at t a) j d < workshops t
+  list_named a j d h l = rw (getD_list_at a j d h l) (good.named _ (omega (arith, starts_le t good a h)))
+
   pub point_none : (w a : ℕ) → workshops t ≤ w → places.point (round_of t) w a ≡ 0
   unfolding round_of places.point
   point_none w a hw =
@@ -75,8 +85,8 @@ module _ (t : Tables) (good : Proper t) where
   points_distinct p a b ha hb pos e =
       elim (cases_lt p (workshops t)) [
         | inl hp ↦
-            worth_same t good p a b (omega (arith, round_point p a hp ha))
-            (sym (round_point p a hp ha) ∙ e ∙ round_point p b hp hb)
+            worth_same t good p a b (omega (arith, round_point t p a hp ha))
+            (sym (round_point t p a hp ha) ∙ e ∙ round_point t p b hp hb)
         | inr hp ↦ absurd (omega (arith, point_none p a hp))
       ]
 
@@ -85,39 +95,30 @@ module _ (t : Tables) (good : Proper t) where
       record {
         lists =
             λ a h.
-            let ha : a < applicants t = omega (arith, round_applicants) in
-            rw (round_workshops, round_list a ha) (list_distinct a ha);
-        points = λ p a b ha hb. points_distinct p a b (omega (arith, round_applicants)) (omega (arith, round_applicants));
+            let ha : a < applicants t = omega (arith, round_applicants t) in
+            rw (round_workshops t, round_list t a ha) (list_distinct a ha);
+        points = λ p a b ha hb. points_distinct p a b (omega (arith, round_applicants t)) (omega (arith, round_applicants t));
       }
-
-  -- The market of the tables, by the tables.
-  pub market_n : (market t).n ≡ applicants t
-  unfolding market market_of
-  market_n = round_applicants
-
-  pub market_m : (market t).m ≡ workshops t
-  unfolding market market_of
-  market_m = round_workshops
 
   pub market_len : (a : ℕ) → a < applicants t → (market t).wish.len a ≡ list_length t a
   unfolding market market_of wish_of
-  market_len a h = ap (λ (xs : List ℕ). length xs) (round_list a h) ∙ length_list_at t good a h
+  market_len a h = ap (λ (xs : List ℕ). length xs) (round_list t a h) ∙ length_list_at t good a h
 
   pub market_len_none : (a : ℕ) → applicants t ≤ a → (market t).wish.len a ≡ 0
   unfolding market market_of wish_of
-  market_len_none a h = ap (λ (xs : List ℕ). length xs) (get_or_past (round_of t).lists a [] (omega (arith, round_applicants)))
+  market_len_none a h = ap (λ (xs : List ℕ). length xs) (get_or_past (round_of t).lists a [] (omega (arith, round_applicants t)))
 
   pub market_entry : (a j : ℕ) → a < applicants t → j < list_length t a → (market t).wish.entry a j ≡ get_or t.entries (get_or t.starts a 0 + j) 0
   unfolding market market_of wish_of
   market_entry a j h l =
-      ap (λ (xs : List ℕ). get_or xs j (places.nowhere (round_of t))) (round_list a h) ∙ getD_list_at a j (places.nowhere (round_of t)) h l
+      ap (λ (xs : List ℕ). get_or xs j (places.nowhere (round_of t))) (round_list t a h) ∙ getD_list_at a j (places.nowhere (round_of t)) h l
 
   pub market_entry_list : (a j : ℕ) → a < applicants t → j < list_length t a → (market t).wish.entry a j ≡ get_or (list_at t a) j 0
   market_entry_list a j h l = market_entry a j h l ∙ sym (getD_list_at a j 0 h l)
 
   pub market_pos : (a p : ℕ) → a < applicants t → (market t).wish.pos a p ≡ promise.rank (list_at t a) p
   unfolding market market_of wish_of
-  market_pos a p h = ap (λ (xs : List ℕ). promise.rank xs p) (round_list a h)
+  market_pos a p h = ap (λ (xs : List ℕ). promise.rank xs p) (round_list t a h)
 
   -- whom w keeps out of X
   pub market_keeps : (w a : ℕ) (X : ℕ → Bool) → w < workshops t → a < applicants t →
@@ -126,7 +127,7 @@ module _ (t : Tables) (good : Proper t) where
   market_keeps w a X hw ha =
       let f : ℕ → Bool = λ b. X b && ltb (places.point (round_of t) w a) (places.point (round_of t) w b) in
       let g : ℕ → Bool = λ b. X b && ltb (worth t w a) (worth t w b) in
-      let here = round_point w a hw ha in
+      let here = round_point t w a hw ha in
       keeps_same (X a) _ _ _ _ _ _ here
-      (ap (count f) round_applicants ∙ count_same f g (applicants t) (λ b hb. let there = round_point w b hw hb in cc))
-      (round_places w hw)
+      (ap (count f) (round_applicants t) ∙ count_same f g (applicants t) (λ b hb. let there = round_point t w b hw hb in cc))
+      (round_places t w hw)
