@@ -1,6 +1,6 @@
 -- Where the rows of each workshop begin, found while the rows go by in order: before row i is filled, the starts up to its workshop
 -- are known to be i.
-use Rattle.std.proofs.Common.{◌≡◌, ℕ, zero, suc, ◌+◌, ◌-◌, ◌<◌, ◌≤◌, List, ◌++◌, length, replicate, None, sym, refl, ap, ◌∙◌, ⊎_elim, add-one, arith}
+use Rattle.std.proofs.Common.{◌≡◌, ℕ, zero, suc, ◌+◌, ◌-◌, ◌<◌, ◌≤◌, List, ◌++◌, replicate, None, sym, refl, ap, ◌∙◌, ⊎_elim, add-one, arith}
 use Rattle.std.proofs.lemmas.List.{get_or-replicate, length-replicate, length-append, get_or_append_left, get_or-append_right}
 use Rattle.std.proofs.lemmas.Bool.{cases_lt}
 use Rattle.layout.specs.Slices.{over, table}
@@ -55,9 +55,6 @@ module _ (b : List ℕ) (none : fault b ≡ None) where
 
 -- row i, by its place and by the first workshop whose start is not known
 module _ (b : List ℕ) (none : fault b ≡ None) (i rows at : ℕ) (many : rows ≡ rows_in b) (l : i < rows) (place : at ≡ row_at b i) where
-  pub row_within : at + 5 ≤ length b
-  row_within = omega (arith, (clean_from_none b none).whole)
-
   pub sheet_small : byte b at + 1 ≤ workshops_in b
   sheet_small = rw place (omega (arith, (clean_from_none b none).rows_workshop i (omega arith)))
 

@@ -117,15 +117,13 @@ fn fill_rows(
     ensures rowed { row_applicants.new ≡ over (table (row_applicant_in bytes.now) rows) row_applicants.old }
     ensures pointed { row_points.new ≡ over (table (row_points_in bytes.now) rows) row_points.old }
 {
-    let mut at = from;
     let mut next: usize = 0;
-    for i in 0..rows {
-        let until = usize::from(bytes[at]) + 1;
+    for (i, row) in bytes[from..from + 5 * rows].chunks_exact(5).enumerate() {
+        let until = usize::from(row[0]) + 1;
         open_sheets(row_starts, next, until, i as u32);
         next = until;
-        row_applicants[i] = word_in(bytes, at + 1);
-        row_points[i] = word_in(bytes, at + 3);
-        at += 5;
+        row_applicants[i] = word_in(row, 1);
+        row_points[i] = word_in(row, 3);
     }
     open_sheets(row_starts, next, workshops + 1, rows as u32);
 }

@@ -1,72 +1,122 @@
 -- One row more: the starts up to its workshop, its applicant and its points.
-use Rattle.std.proofs.Common.{◌≡◌, ℕ, ◌+◌, sym, refl, ap, ◌∙◌, arith}
-use Rattle.layout.specs.Slices.{table}
-use Rattle.layout.specs.Bytes.{byte, word, row_applicant_in, row_points_in, rows_before}
-use Rattle.codec.proofs.Puts.{over_table_more, over_end}
-use Rattle.codec.proofs.Sheets.{next_open_none, next_open_more, row_within, sheet_small, sheet_order, sheet_opens, last_small, last_opens, over_level}
+use Rattle.std.proofs.Common.{◌≡◌, ℕ, ◌+◌, ◌-◌, ◌*◌, ◌<◌, ◌≤◌, List, length, take, drop, sym, refl, ap, ◌∙◌, arith}
+use Rattle.std.specs.Slice.Iter.{chunks_exact_rest, chunks_exact_size}
+use Rattle.std.specs.Iterator.Adapters.{enumerate_source, enumerate_count}
+use Rattle.std.proofs.lemmas.List.{length-drop}
+use Rattle.layout.specs.Slices.{over, table}
+use Rattle.layout.specs.Bytes.{byte, word, row_at, row_applicant_in, row_points_in, rows_before}
+use Rattle.layout.proofs.Clean.{clean_from_none}
+use Rattle.codec.proofs.Puts.{over_table_more, over_end, length_part}
+use Rattle.codec.proofs.Fills.{row_before, row_byte, row_word, rows_left}
+use Rattle.codec.proofs.Sheets.{next_open, next_open_none, next_open_more, sheet_small, sheet_order, sheet_opens, last_small, last_opens, over_level}
 use Rattle.codec.proofs.fill.fill_rows.Goals as goal
 
-pub loop-i-init : goal.loop-i-init
-loop-i-init c = (c.requires.place, sym (next_open_none _), refl, refl, refl)
+pub slice_bounds-chunks_exact-end : goal.slice_bounds-chunks_exact-end
+slice_bounds-chunks_exact-end c = omega (arith, (clean_from_none _ c.requires.clean).whole)
 
-pub bounds-bytes-at : goal.bounds-bytes-at
-bounds-bytes-at c = omega (arith, row_within _ c.requires.clean _ _ _ c.requires.many c.loop-i-test.true c.loop-i.invariant.0)
+pub loop-i-init : goal.loop-i-init
+loop-i-init c =
+    let b = c.args.bytes.now in
+    let all = take (c.args.«from» + 5 * c.args.rows - c.args.«from») (drop c.args.«from» b) in
+    let made = c.into_iter-i-iterator.ensures.into_iter_gives in
+    let source = ap enumerate_source made ∙ c.enumerate-i-items.ensures.source in
+    let none = sym (ap enumerate_count made ∙ c.enumerate-i-items.ensures.count) in
+    record {
+      size = ap chunks_exact_size source ∙ c.chunks_exact.ensures.size;
+      left = ap chunks_exact_rest source ∙ (c.chunks_exact.ensures.rest ∙ ap (λ (k : ℕ). drop (5 * k) all) none);
+      within = omega (arith, none);
+      opened = sym (next_open_none b) ∙ ap (λ (k : ℕ). next_open b k) none;
+      sheeted = refl;
+      rowed = ap (λ (k : ℕ). over (table (row_applicant_in b) k) c.args.row_applicants.now) none;
+      pointed = ap (λ (k : ℕ). over (table (row_points_in b) k) c.args.row_points.now) none;
+    }
 
 pub open_sheets-requires : goal.open_sheets-requires
 open_sheets-requires c =
     let b = c.args.bytes.now in
+    let f : ℕ = c.args.«from» in
+    let all = take (f + 5 * c.args.rows - f) (drop f b) in
     let v = c.loop-i.invariant in
+    let s = c.in-Some.ensures.steps in
+    let i : ℕ = c.in-Some.i in
+    let there : f + 5 * c.args.rows ≤ length b = omega (arith, (clean_from_none b c.requires.clean).whole) in
+    let turn = ap (λ (k : ℕ). drop (5 * k) all) s.1 ∙ (sym v.left ∙ s.0.1.0) in
+    let five = s.0.1.1 ∙ v.size in
+    let l : i < c.args.rows = row_before b f c.args.rows i c.in-Some.row.now _ there turn five in
+    let place : f + 5 * i ≡ row_at b i = omega arith in
+    let opened = v.opened ∙ ap (λ (k : ℕ). next_open b k) (sym s.1) in
+    let until : c.from-until.result ≡ byte b (f + 5 * i) = c.from-until.ensures ∙ (row_byte b f c.args.rows i c.in-Some.row.now _ there turn five 0 (omega arith) ∙ ap (λ (k : ℕ). byte b k) (omega arith)) in
+    let order = sheet_order b c.requires.clean i c.args.rows (f + 5 * i) c.requires.many l place _ opened in
     record {
-      order = omega (arith, sheet_order b c.requires.clean _ _ _ c.requires.many c.loop-i-test.true v.0 _ v.1);
-      room = omega (arith, sheet_small b c.requires.clean _ _ _ c.requires.many c.loop-i-test.true v.0);
+      order = omega arith;
+      room = omega (arith, sheet_small b c.requires.clean i c.args.rows (f + 5 * i) c.requires.many l place);
     }
-
-pub overflow_add-at : goal.overflow_add-at
-overflow_add-at c = omega (arith, row_within _ c.requires.clean _ _ _ c.requires.many c.loop-i-test.true c.loop-i.invariant.0)
-
-pub word_in-requires : goal.word_in-requires
-word_in-requires c = omega (arith, row_within _ c.requires.clean _ _ _ c.requires.many c.loop-i-test.true c.loop-i.invariant.0)
-
-pub overflow_add-at-in-loop-i : goal.overflow_add-at-in-loop-i
-overflow_add-at-in-loop-i c = omega (arith, row_within _ c.requires.clean _ _ _ c.requires.many c.loop-i-test.true c.loop-i.invariant.0)
-
-pub word_in-requires-in-loop-i : goal.word_in-requires-in-loop-i
-word_in-requires-in-loop-i c = omega (arith, row_within _ c.requires.clean _ _ _ c.requires.many c.loop-i-test.true c.loop-i.invariant.0)
-
-pub overflow_add-at-in-loop-i-2 : goal.overflow_add-at-in-loop-i-2
-overflow_add-at-in-loop-i-2 c = omega (arith, row_within _ c.requires.clean _ _ _ c.requires.many c.loop-i-test.true c.loop-i.invariant.0)
 
 pub loop-i-preserved : goal.loop-i-preserved
 loop-i-preserved c =
     let b = c.args.bytes.now in
-    let i = c.loop-i.i in
+    let f : ℕ = c.args.«from» in
+    let all = take (f + 5 * c.args.rows - f) (drop f b) in
     let v = c.loop-i.invariant in
-    let l = c.loop-i-test.true in (
-      omega arith,
-      ap (λ (x : ℕ). x + 1) (c.from-until.ensures ∙ ap (λ (x : ℕ). byte b x) v.0) ∙ sym (next_open_more b i),
-      over_level (λ (w : ℕ). rows_before b w c.args.rows) _ _ _ _ _ _ (omega (arith, sheet_order b c.requires.clean _ _ _ c.requires.many l v.0 _ v.1))
-          (λ k h s. sheet_opens b c.requires.clean _ _ _ c.requires.many l v.0 _ v.1 k h (omega arith)) v.2 c.open_sheets.ensures,
-      over_table_more (row_applicant_in b) i _ _ _ v.3 (c.word_in.ensures ∙ ap (λ (x : ℕ). word b (x + 1)) v.0) (omega arith),
-      over_table_more (row_points_in b) i _ _ _ v.4 (c.word_in-in-loop-i.ensures ∙ ap (λ (x : ℕ). word b (x + 3)) v.0) (omega arith),
-    )
+    let s = c.in-Some.ensures.steps in
+    let i : ℕ = c.in-Some.i in
+    let there : f + 5 * c.args.rows ≤ length b = omega (arith, (clean_from_none b c.requires.clean).whole) in
+    let turn = ap (λ (k : ℕ). drop (5 * k) all) s.1 ∙ (sym v.left ∙ s.0.1.0) in
+    let five = s.0.1.1 ∙ v.size in
+    let l : i < c.args.rows = row_before b f c.args.rows i c.in-Some.row.now _ there turn five in
+    let place : f + 5 * i ≡ row_at b i = omega arith in
+    let opened = v.opened ∙ ap (λ (k : ℕ). next_open b k) (sym s.1) in
+    let until : c.from-until.result ≡ byte b (f + 5 * i) = c.from-until.ensures ∙ (row_byte b f c.args.rows i c.in-Some.row.now _ there turn five 0 (omega arith) ∙ ap (λ (k : ℕ). byte b k) (omega arith)) in
+    let order = sheet_order b c.requires.clean i c.args.rows (f + 5 * i) c.requires.many l place _ opened in
+    let next : i + 1 ≡ enumerate_count c.next.new.self = omega (arith, s.1, s.2) in
+    record {
+      size = s.0.0 ∙ v.size;
+      left = rows_left b f c.args.rows i c.in-Some.row.now _ there turn five ∙ ap (λ (k : ℕ). drop (5 * k) all) next;
+      within = omega arith;
+      opened = ap (λ (x : ℕ). x + 1) (until ∙ ap (λ (k : ℕ). byte b k) place) ∙ (sym (next_open_more b i) ∙ ap (λ (k : ℕ). next_open b k) next);
+      sheeted =
+          over_level (λ (w : ℕ). rows_before b w c.args.rows) _ _ _ _ _ _ (omega arith)
+          (λ k h z. sheet_opens b c.requires.clean i c.args.rows (f + 5 * i) c.requires.many l place _ opened k h (omega arith)) v.sheeted c.open_sheets.ensures;
+      rowed =
+          over_table_more (row_applicant_in b) i _ _ _ (v.rowed ∙ ap (λ (k : ℕ). over (table (row_applicant_in b) k) c.args.row_applicants.now) (sym s.1))
+          (c.word_in.ensures ∙ (row_word b f c.args.rows i c.in-Some.row.now _ there turn five 1 (omega arith) ∙ ap (λ (k : ℕ). word b (k + 1)) place)) (omega arith)
+          ∙ ap (λ (k : ℕ). over (table (row_applicant_in b) k) c.args.row_applicants.now) next;
+      pointed =
+          over_table_more (row_points_in b) i _ _ _ (v.pointed ∙ ap (λ (k : ℕ). over (table (row_points_in b) k) c.args.row_points.now) (sym s.1))
+          (c.word_in-in-loop-i.ensures ∙ (row_word b f c.args.rows i c.in-Some.row.now _ there turn five 3 (omega arith) ∙ ap (λ (k : ℕ). word b (k + 3)) place)) (omega arith)
+          ∙ ap (λ (k : ℕ). over (table (row_points_in b) k) c.args.row_points.now) next;
+    }
 
 pub open_sheets-requires-2 : goal.open_sheets-requires-2
 open_sheets-requires-2 c =
     let b = c.args.bytes.now in
-    let e : c.loop-i.i ≡ c.args.rows = omega arith in
-    let small = last_small b c.requires.clean _ _ _ c.requires.many e c.loop-i.invariant.1 in
+    let f : ℕ = c.args.«from» in
+    let v = c.loop-i.invariant in
+    let s = c.in-None.ensures.steps in
+    let there : f + 5 * c.args.rows ≤ length b = omega (arith, (clean_from_none b c.requires.clean).whole) in
+    let all = take (f + 5 * c.args.rows - f) (drop f b) in
+    let i : ℕ = enumerate_count c.loop-i.i-iterator in
+    let e : i ≡ c.args.rows =
+    omega (arith, s.0.1.0, v.size, v.within, ap (λ (x : List ℕ). length x) v.left, length-drop (5 * i) all, length_part f (f + 5 * c.args.rows) b there) in
+    let small = last_small b c.requires.clean i c.args.rows c.loop-i.next c.requires.many e v.opened in
     record { order = omega arith; room = omega arith }
 
 pub returns : goal.returns
 returns c =
     let b = c.args.bytes.now in
+    let f : ℕ = c.args.«from» in
     let v = c.loop-i.invariant in
-    let e : c.loop-i.i ≡ c.args.rows = omega arith in
-    let small = last_small b c.requires.clean _ _ _ c.requires.many e v.1 in
+    let s = c.in-None.ensures.steps in
+    let there : f + 5 * c.args.rows ≤ length b = omega (arith, (clean_from_none b c.requires.clean).whole) in
+    let all = take (f + 5 * c.args.rows - f) (drop f b) in
+    let i : ℕ = enumerate_count c.loop-i.i-iterator in
+    let e : i ≡ c.args.rows =
+    omega (arith, s.0.1.0, v.size, v.within, ap (λ (x : List ℕ). length x) v.left, length-drop (5 * i) all, length_part f (f + 5 * c.args.rows) b there) in
+    let small = last_small b c.requires.clean i c.args.rows c.loop-i.next c.requires.many e v.opened in
     record {
       sheeted =
           over_level (λ (w : ℕ). rows_before b w c.args.rows) _ _ _ _ _ _ (omega arith)
-          (λ k h _. last_opens b c.requires.clean _ _ _ c.requires.many e v.1 k h) v.2 c.open_sheets-2.ensures;
-      rowed = over_end (table (row_applicant_in b)) _ _ _ _ e v.3;
-      pointed = over_end (table (row_points_in b)) _ _ _ _ e v.4;
+          (λ k h _. last_opens b c.requires.clean i c.args.rows c.loop-i.next c.requires.many e v.opened k h) v.sheeted c.open_sheets-2.ensures;
+      rowed = over_end (table (row_applicant_in b)) _ _ _ _ e v.rowed;
+      pointed = over_end (table (row_points_in b)) _ _ _ _ e v.pointed;
     }
