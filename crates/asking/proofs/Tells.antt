@@ -1,10 +1,10 @@
 -- The last pass of a run: what is told so far lies over the front of the results, and who has a place is counted there.
-use Rattle.std.proofs.Common.{◌≡◌, ℕ, zero, suc, ◌+◌, ◌-◌, ◌<◌, ◌≤◌, Bool, not, cond, eqb, List, [], ◌∷◌, ◌++◌, length, get_or, take, drop, set, sum_by, count_by, sym, refl, ap, ◌∙◌, ap₂, inl, inr, append-nil, add-one, arith}
-use Rattle.std.proofs.lemmas.Bool.{cond-true, cond-false, cases_lt, lt-ltb, le-ltb, eq-eqb, ne_eqb}
+use Rattle.std.proofs.Common.{◌≡◌, ℕ, zero, suc, ◌+◌, ◌-◌, ◌<◌, ◌≤◌, Bool, not, cond, eqb, List, [], ◌∷◌, ◌++◌, length, get_or, take, drop, set, sum_by, count_by, sym, refl, ap, ◌∙◌, inl, inr, append-nil, add-one, arith}
+use Rattle.std.proofs.lemmas.Bool.{cond-true, cond-false, cases_lt, lt-ltb, le-ltb, ne_eqb}
 use Rattle.std.proofs.lemmas.List.{get_or-append_right, get_or-drop, get_or-take, length-append, length-drop, length-take, drop_all}
 use Rattle.std.proofs.lemmas.List.FromFn.{sum_by-map-range_with_len_more}
 use Rattle.layout.specs.Slices.{table, over}
-use Rattle.layout.specs.Tables.{Tables, Proper, applicants, list_length, most_entries}
+use Rattle.layout.specs.Tables.{Tables, Proper, applicants, list_length}
 use Rattle.layout.proofs.Flats.{length_table, table_more}
 use Rattle.round.specs.Market.{count}
 use Rattle.round.proofs.Count.{count_same}

@@ -1,5 +1,5 @@
 -- A run begins with nobody having asked, and ends where all have settled.
-use Rattle.std.proofs.Common.{◌≡◌, ℕ, ◌-◌, ◌<◌, ◌≤◌, List, ◌++◌, length, get_or, take, drop, replicate, None, Ok, Result, refl, ap, ◌∙◌}
+use Rattle.std.proofs.Common.{◌≡◌, ℕ, ◌-◌, ◌<◌, ◌≤◌, List, ◌++◌, length, get_or, take, drop, replicate, None, Ok, Result, ap, ◌∙◌}
 use Rattle.std.proofs.lemmas.List.{take_at}
 use Rattle.layout.specs.Slices.{over}
 use Rattle.layout.specs.Tables.{Tables, Proper, applicants, workshops}

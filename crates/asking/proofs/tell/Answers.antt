@@ -1,5 +1,5 @@
 -- Each turn of the loop is a step of Tells.
-use Rattle.std.proofs.Common.{rules, ◌≡◌, ℕ, ◌-◌, ◌++◌, take, drop, count_by, ap, ap₂, ◌∙◌, arith}
+use Rattle.std.proofs.Common.{rules, ◌≡◌, ℕ, ◌++◌, drop, count_by, ap, ap₂, ◌∙◌, arith}
 use Rattle.std.proofs.iter.runs.Made.{chains}
 use Rattle.layout.specs.Tables.{applicants}
 use Rattle.layout.proofs.Flats.{length_table}
