@@ -1,10 +1,7 @@
 -- One applicant's list in the market of tables, in the words of the tables, as the proofs here and in the crates above cite it.
-use Rattle.std.proofs.Common.{◌≡◌, ℕ, ◌+◌, ◌<◌, ◌≤◌, List, [], length, get_or, ap, ◌∙◌}
-use Rattle.layout.specs.Tables.{Tables, Proper, applicants, workshops, places_at, list_length, list_at}
-use Rattle.layout.proofs.Flats.{length_table, getD_table}
-use Rattle.round.specs.Places.{point}
-use Rattle.round.specs.ByPoints.{market_of}
-use Rattle.points.specs.Standing.{round_of, market, worth}
+use Rattle.std.proofs.Common.{◌≡◌, ℕ, ◌+◌, ◌<◌, ◌≤◌, length, get_or}
+use Rattle.layout.specs.Tables.{Tables, Proper, applicants, list_length, list_at}
+use Rattle.points.specs.Standing.{market}
 use Rattle.points.proofs.Cursors.{starts_le}
 use Rattle.points.proofs.Theory as theory
 
