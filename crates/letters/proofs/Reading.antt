@@ -1,8 +1,8 @@
--- Steps of reading a letter: what a part's reader says of the letter, and one entry more.
-use Rattle.std.proofs.Common.{◌≡◌, ℕ, ◌+◌, ◌-◌, ◌<◌, ◌≤◌, Bool, true, false, cond, not, eqb, List, length, get_or, take, drop, set, Some, None, Ok, Err, Option, Result, unwrap_or, refl, inl, inr, add-one, arith}
+-- Steps of reading a letter: what an outcome says of a fault, the first of several faults, and one entry more.
+use Rattle.std.proofs.Common.{◌≡◌, ℕ, ◌+◌, ◌<◌, ◌≤◌, Bool, true, false, cond, not, eqb, List, length, get_or, set, Some, None, Ok, Err, Option, Result, unwrap_or, refl, inl, inr, add-one, arith}
 use Rattle.std.specs.Option.{option_eq, option_or}
 use Rattle.std.specs.Bool.{then_some}
-use Rattle.std.proofs.lemmas.List.{take_rest, get_or-set_same, get_or-set_other}
+use Rattle.std.proofs.lemmas.List.{get_or-set_same, get_or-set_other}
 use Rattle.std.proofs.lemmas.Bool.{cases_eq}
 use Rattle.std.proofs.lemmas.Bool.Decides.{nat_tests}
 use Rattle.layout.specs.Slices.{outcome, or_else}
@@ -10,28 +10,23 @@ use Rattle.layout.specs.Bytes.{byte, refuse}
 use Rattle.layout.specs.Tables.{most_entries}
 use Rattle.layout.specs.declared.Refusal.{Refusal}
 use Rattle.layout.specs.declared.Refusal.TheVariants.{NotFirst}
-use Rattle.letters.specs.Letter.{count_in, place_at, place_told, entry_at, entry_in}
-use Rattle.letters.specs.Faults.{entry_fault, workshop_seen, reached_in, first_in, place_fault}
-use Rattle.letters.specs.declared.entry.Entry.{Entry}
+use Rattle.letters.specs.Letter.{count_in, place_at, place_told, entry_at}
+use Rattle.letters.specs.Faults.{workshop_seen, reached_in, first_in, place_fault}
 use Rattle.cuts.proofs.Firsts.{first_that_below}
 use Rattle.cuts.specs.Cuts.{first_that, position}
 
 -- what an outcome says of the fault
 pub none_from_ok : {T E : Type 0} (f : Option E) (v w : T) → Ok w ≡ outcome f v → (f ≡ None) × (w ≡ v)
 none_from_ok None v w e = (refl, cc)
-none_from_ok (Some x) v w e = let z : ◌≡◌ {A = ℕ} 0 1 = cc in absurd (omega arith)
+none_from_ok (Some x) v w e = absurd (cc)
 
 pub some_from_err : {T E : Type 0} (f : Option E) (v : T) (x : E) → Err x ≡ outcome f v → f ≡ Some x
-some_from_err None v x e = let z : ◌≡◌ {A = ℕ} 0 1 = cc in absurd (omega arith)
+some_from_err None v x e = absurd (cc)
 some_from_err (Some y) v x e = cc
 
 -- and back
-pub ok_from_none : {T E : Type 0} (f : Option E) (v w : T) → f ≡ None → w ≡ v → Ok w ≡ outcome f v
-ok_from_none None v w e q = cc
-ok_from_none (Some x) v w e q = let z : ◌≡◌ {A = ℕ} 0 1 = cc in absurd (omega arith)
-
 pub err_from_some : {T E : Type 0} (f : Option E) (v : T) (x : E) → f ≡ Some x → Err x ≡ outcome f v
-err_from_some None v x e = let z : ◌≡◌ {A = ℕ} 0 1 = cc in absurd (omega arith)
+err_from_some None v x e = absurd (cc)
 err_from_some (Some y) v x e = cc
 
 -- the first of four faults, in the order in which a letter is judged
@@ -53,17 +48,6 @@ module _ {T : Type 0} (f g h k : Option Refusal) (v : T) where
 
   pub no_fault : f ≡ None → g ≡ None → h ≡ None → k ≡ None → Ok v ≡ InTurn
   no_fault p q r s = simp (p, q, r, s)
-
--- what the reader of a part, lent from the middle of b, says of b
-module _ (b : List ℕ) (at : ℕ) where
-  abbrev rest : List ℕ
-  rest = take (length b - at) (drop at b)
-
-  pub entry_from_ok : (e : Entry) → Ok e ≡ outcome (entry_fault rest) (entry_in rest) → (entry_fault (drop at b) ≡ None) × (e ≡ entry_in (drop at b))
-  entry_from_ok e h = none_from_ok (entry_fault (drop at b)) (entry_in (drop at b)) e (rw take_rest at h)
-
-  pub fault_from_err : (k : ℕ) → Err k ≡ outcome (entry_fault rest) (entry_in rest) → entry_fault (drop at b) ≡ Some k
-  fault_from_err k h = some_from_err (entry_fault (drop at b)) (entry_in (drop at b)) k (rw take_rest at h)
 
 -- one position more
 pub first_that_more : (f : ℕ → Bool) (j : ℕ) → first_that f (j + 1) ≡ option_or (first_that f j) (then_some (f j) j)
