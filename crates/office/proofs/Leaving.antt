@@ -1,8 +1,7 @@
 -- What asking and the writing of letters leave in memory that has just their size, and that there is room in it.
-use Rattle.std.proofs.Common.{◌≡◌, ℕ, ◌+◌, ◌*◌, ◌≤◌, List, length, get_or, take, None, append-nil, arith}
-use Rattle.std.proofs.lemmas.List.{drop_all, take_all}
+use Rattle.std.proofs.Common.{◌≡◌, ℕ, ◌+◌, ◌*◌, ◌≤◌, List, length, get_or, take, None, arith}
+use Rattle.std.proofs.lemmas.List.{take_all}
 use Rattle.std.proofs.lemmas.Bool.Decides.{nat_tests}
-use Rattle.layout.specs.Slices.{over}
 use Rattle.layout.specs.Tables.{Tables, Proper, applicants, workshops}
 use Rattle.layout.proofs.Flats.{length_table, flat_same}
 use Rattle.points.specs.Standing.{market, rows_found}
@@ -13,10 +12,6 @@ use Rattle.letters.specs.Written.{all_letters, letters_room}
 use Rattle.letters.proofs.Told.{letters_settled}
 use Rattle.office.specs.Outcome.{results_of, letter_of, letters_of}
 use Rattle.office.proofs.Laid.{length_benches}
-
--- what is laid over a list of its length is all that is left
-pub over_all : (xs old : List ℕ) → length old ≡ length xs → over xs old ≡ xs
-over_all xs old h = rw (drop_all (length xs) old (omega arith)) (append-nil xs)
 
 front : (n : ℕ) (xs ys : List ℕ) → xs ≡ ys → length ys ≡ n → take n xs ≡ ys
 front n xs ys same long = rw same (take_all n ys (omega arith))

@@ -1,5 +1,5 @@
 pub mod Outcome
 pub mod Promises
-pub mod Sheets
+pub mod Facts
 pub mod Owned
 pub mod Settling

@@ -1,5 +1,6 @@
 // A round in owned memory: its tables, and that they are proper in the type itself.
-ghost use Rattle.layout.specs.Tables.{tables, Limited, Seated, Started, Named, Distinct, Drawn, Apart, Sheeted, Rowed, Sorted};
+ghost use Rattle.layout.specs.Tables.{tables, Proper};
+ghost use Rattle.office.specs.Facts.{proper_prop};
 
 #[derive(Drop)]
 pub struct OwnedRound {
@@ -10,14 +11,5 @@ pub struct OwnedRound {
     pub row_starts: Vec<u32>,
     pub row_applicants: Vec<u16>,
     pub row_points: Vec<u16>,
-    ghost limited: { Limited (tables seats.items lots.items starts.items entries.items row_starts.items row_applicants.items row_points.items) },
-    ghost seated: { Seated (tables seats.items lots.items starts.items entries.items row_starts.items row_applicants.items row_points.items) },
-    ghost started: { Started (tables seats.items lots.items starts.items entries.items row_starts.items row_applicants.items row_points.items) },
-    ghost named: { Named (tables seats.items lots.items starts.items entries.items row_starts.items row_applicants.items row_points.items) },
-    ghost distinct: { Distinct (tables seats.items lots.items starts.items entries.items row_starts.items row_applicants.items row_points.items) },
-    ghost drawn: { Drawn (tables seats.items lots.items starts.items entries.items row_starts.items row_applicants.items row_points.items) },
-    ghost apart: { Apart (tables seats.items lots.items starts.items entries.items row_starts.items row_applicants.items row_points.items) },
-    ghost sheeted: { Sheeted (tables seats.items lots.items starts.items entries.items row_starts.items row_applicants.items row_points.items) },
-    ghost rowed: { Rowed (tables seats.items lots.items starts.items entries.items row_starts.items row_applicants.items row_points.items) },
-    ghost sorted: { Sorted (tables seats.items lots.items starts.items entries.items row_starts.items row_applicants.items row_points.items) },
+    ghost proper: { Proper (tables seats.items lots.items starts.items entries.items row_starts.items row_applicants.items row_points.items) } by { proper_prop _ },
 }

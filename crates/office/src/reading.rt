@@ -1,51 +1,64 @@
 // Reading a round into memory of its own.
-ghost use Rattle.std.specs.Prelude.{◌≡◌, ◌^◌, ◌<◌, IfOk, Ok, MatchResult};
-ghost use Rattle.layout.specs.Bytes.{fault, decode};
-ghost use Rattle.layout.specs.Tables.{Proper};
+ghost use Rattle.std.specs.Prelude.{◌≡◌, IfOk, Ok, None, MatchResult};
+ghost use Rattle.layout.specs.Bytes.{fault, decode, sizes_in, tables_in};
 ghost use Rattle.texts.specs.Faults.{Faulty};
 ghost use Rattle.office.specs.Owned.{tables_owned};
-ghost use Rattle.office.specs.Sheets.{Largest, fronts_of};
 
 use crate::owned::OwnedRound;
-use codec::{MOST_APPLICANTS, MOST_ENTRIES, MOST_ROWS, MOST_WORKSHOPS, Space};
+use codec::Space;
 use layout::Sizes;
 use std::alloc::{AllocError, Global};
 use texts::Fault;
 
-// Memory for the tables of a round.
-#[derive(Drop)]
-struct Sheets {
-    seats: Vec<u32>,
-    lots: Vec<u16>,
-    starts: Vec<u32>,
-    entries: Vec<u16>,
-    row_starts: Vec<u32>,
-    row_applicants: Vec<u16>,
-    row_points: Vec<u16>,
-}
-
-// The round that the bytes are, or their fault.
+// The round that the bytes are, or their fault. Memory is asked for only where they have none.
 pub(crate) fn read_owned(heap: Global, bytes: &[u8]) -> Result<OwnedRound, Fault>
     ensures { MatchResult result (λ o. decode bytes.now ≡ Ok (tables_owned o)) (Faulty (fault bytes.now)) }
 {
-    match largest(heap) {
-        Ok(sheets) => read_into(sheets, bytes),
-        Err(_) => Err(Fault::NoMemory),
-    }
+    let sizes = codec::check(bytes)?;
+    let round = read_sized(heap, bytes, sizes)?;
+    Ok(round)
 }
 
-// Memory for the largest round that the format knows.
-fn largest(heap: Global) -> Result<Sheets, AllocError>
-    ensures { IfOk result Largest }
+// Reads bytes that are a round of these sizes into memory of just these sizes.
+fn read_sized(heap: Global, bytes: &[u8], sizes: Sizes) -> Result<OwnedRound, AllocError>
+    requires clean { fault bytes.now ≡ None }
+    requires sized { sizes ≡ sizes_in bytes.now }
+    ensures { IfOk result (λ o. tables_owned o ≡ tables_in bytes.now) }
 {
-    let seats = vec![in heap; 0u32; MOST_WORKSHOPS + 1]?;
-    let lots = vec![in heap; 0u16; MOST_APPLICANTS]?;
-    let starts = vec![in heap; 0u32; MOST_APPLICANTS + 1]?;
-    let entries = vec![in heap; 0u16; MOST_APPLICANTS * MOST_ENTRIES as usize]?;
-    let row_starts = vec![in heap; 0u32; MOST_WORKSHOPS + 1]?;
-    let row_applicants = vec![in heap; 0u16; MOST_ROWS]?;
-    let row_points = vec![in heap; 0u16; MOST_ROWS]?;
-    Ok(Sheets {
+    let Sizes {
+        applicants,
+        workshops,
+        entries: listed,
+        rows,
+    } = sizes;
+    let mut seats = vec![in heap; 0u32; workshops + 1]?;
+    let mut lots = vec![in heap; 0u16; applicants]?;
+    let mut starts = vec![in heap; 0u32; applicants + 1]?;
+    let mut entries = vec![in heap; 0u16; listed]?;
+    let mut row_starts = vec![in heap; 0u32; workshops + 1]?;
+    let mut row_applicants = vec![in heap; 0u16; rows]?;
+    let mut row_points = vec![in heap; 0u16; rows]?;
+    {
+        // each slice has a name of its own first: lent in the literal itself, a Vec is not known afterwards to hold what was read
+        let seats = seats.as_mut_slice();
+        let lots = lots.as_mut_slice();
+        let starts = starts.as_mut_slice();
+        let entries = entries.as_mut_slice();
+        let row_starts = row_starts.as_mut_slice();
+        let row_applicants = row_applicants.as_mut_slice();
+        let row_points = row_points.as_mut_slice();
+        let mut space = Space {
+            seats,
+            lots,
+            starts,
+            entries,
+            row_starts,
+            row_applicants,
+            row_points,
+        };
+        codec::read(bytes, &mut space).unwrap();
+    }
+    Ok(OwnedRound {
         seats,
         lots,
         starts,
@@ -54,72 +67,4 @@ fn largest(heap: Global) -> Result<Sheets, AllocError>
         row_applicants,
         row_points,
     })
-}
-
-// Reads the bytes into memory that suffices for every round.
-fn read_into(mut sheets: Sheets, bytes: &[u8]) -> Result<OwnedRound, Fault>
-    requires { Largest sheets }
-    ensures { MatchResult result (λ o. decode bytes.now ≡ Ok (tables_owned o)) (Faulty (fault bytes.now)) }
-{
-    // each slice has a name of its own first: lent in the literal itself, a Vec is not known afterwards to hold what was read
-    let seats: &mut [u32] = &mut sheets.seats;
-    let lots: &mut [u16] = &mut sheets.lots;
-    let starts: &mut [u32] = &mut sheets.starts;
-    let entries: &mut [u16] = &mut sheets.entries;
-    let row_starts: &mut [u32] = &mut sheets.row_starts;
-    let row_applicants: &mut [u16] = &mut sheets.row_applicants;
-    let row_points: &mut [u16] = &mut sheets.row_points;
-    let mut space = Space {
-        seats,
-        lots,
-        starts,
-        entries,
-        row_starts,
-        row_applicants,
-        row_points,
-    };
-    match codec::read(bytes, &mut space) {
-        Err(e) => Err(Fault::Refused(e)),
-        Ok(sizes) => Ok(cut_to_size(sheets, sizes)),
-    }
-}
-
-// The front of the memory that holds a round of these sizes.
-fn cut_to_size(sheets: Sheets, sizes: Sizes) -> OwnedRound
-    requires proper { Proper (fronts_of sizes sheets) }
-    requires few_applicants { sizes.applicants < 2 ^ 32 }
-    requires few_workshops { sizes.workshops < 2 ^ 32 }
-    ensures { tables_owned result ≡ fronts_of sizes sheets }
-{
-    let Sheets {
-        mut seats,
-        mut lots,
-        mut starts,
-        mut entries,
-        mut row_starts,
-        mut row_applicants,
-        mut row_points,
-    } = sheets;
-    let Sizes {
-        applicants,
-        workshops,
-        entries: listed,
-        rows,
-    } = sizes;
-    seats.truncate(workshops + 1);
-    lots.truncate(applicants);
-    starts.truncate(applicants + 1);
-    entries.truncate(listed);
-    row_starts.truncate(workshops + 1);
-    row_applicants.truncate(rows);
-    row_points.truncate(rows);
-    OwnedRound {
-        seats,
-        lots,
-        starts,
-        entries,
-        row_starts,
-        row_applicants,
-        row_points,
-    }
 }

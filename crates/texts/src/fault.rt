@@ -5,7 +5,7 @@ ghost use Rattle.texts.specs.declared.fault.Fault.TheVariants.{Refused, NoMemory
 use layout::Refusal;
 use std::alloc::AllocError;
 
-// The bytes are refused, or memory ran out, of which nothing more is said.
+// The bytes are refused, or they have no fault and memory ran out.
 #[derive(Clone, Copy, PartialEq, Eq, Debug)]
 pub enum Fault {
     Refused(Refusal),

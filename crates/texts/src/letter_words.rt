@@ -13,7 +13,8 @@ use layout::{Lot, Points};
 use letters::{Entry, Verdict, check_letter, entry_at};
 use std::alloc::{AllocError, Global};
 
-// What a letter says, in words, with `accepted` as the last line; or why it is refused.
+// What a letter says, in words, with `accepted` as the last line; or why it is refused. Only of a letter that is not refused does it say
+// that memory ran out.
 pub fn explain(heap: Global, letter: &[u8]) -> Result<String, Fault>
     ensures { MatchResult result (λ s. (fault_in_letter letter.now ≡ None) × (string_bytes s ≡ words_of letter.now)) (Faulty (fault_in_letter letter.now)) }
 {

@@ -1,29 +1,32 @@
 use Rattle.std.proofs.Common.{Ok, Result, sym, ap, ◌∙◌, arith}
+use Rattle.std.proofs.lemmas.Result.{err_from_is_err_and}
+use Rattle.layout.specs.Bytes.{fault, tables_in, decode}
 use Rattle.layout.specs.Encode.{BytesOnly}
 use Rattle.layout.specs.Tables.{Tables}
 use Rattle.layout.specs.declared.Refusal.{Refusal}
 use Rattle.layout.proofs.RoundTrip.{all_as_written}
+use Rattle.codec.proofs.Firsts.{none_from_ok}
 use Rattle.office.specs.Settling.{tables_settled}
-use Rattle.office.proofs.Holding.{proper_owned}
 use Rattle.office.proofs.Promising.{promised_of_proper}
 use Rattle.office.proofs.settling.settle.Goals as goal
 
-pub returns-in-Err : goal.returns-in-Err
-returns-in-Err c =
-    let small : BytesOnly c.args.bytes.now = λ k _. omega (arith, c.type_inv.bytes k) in
-    record { outcome = c.in-Err.ensures; promised = tt; written = all_as_written c.args.bytes.now small }
+pub returns-in_err-held-clause-written : goal.returns-in_err-held-clause-written
+returns-in_err-held-clause-written c = all_as_written c.args.bytes.now (λ k _. omega (arith, c.type_inv.bytes k))
 
-pub returns-in-Ok-settle_held : goal.returns-in-Ok-settle_held
-returns-in-Ok-settle_held c =
-    let small : BytesOnly c.args.bytes.now = λ k _. omega (arith, c.type_inv.bytes k) in
-    let settled = c.in-Ok-settle_held.settled in
-    record {
-      outcome = c.in-Ok.ensures ∙ ap {B = Result Tables Refusal} (λ (t : Tables). Ok t) (sym c.in-Ok-settle_held.ensures);
-      promised = promised_of_proper (tables_settled settled) (proper_owned settled.held);
-      written = all_as_written c.args.bytes.now small;
-    }
+pub returns-in_err-settled-clause-outcome : goal.returns-in_err-settled-clause-outcome
+unfolding decode
+returns-in_err-settled-clause-outcome c =
+    let p = err_from_is_err_and c.from_residual-in_err-settled.result c.from_residual-in_err-settled.ensures.1 in
+    rw (p.1, p.2) (none_from_ok (fault c.args.bytes.now) (tables_in c.args.bytes.now) _ (sym c.in_ok-held.ensures)).0
 
-pub returns-in-Err-settle_held : goal.returns-in-Err-settle_held
-returns-in-Err-settle_held c =
-    let small : BytesOnly c.args.bytes.now = λ k _. omega (arith, c.type_inv.bytes k) in
-    record { outcome = tt; promised = tt; written = all_as_written c.args.bytes.now small }
+pub returns-in_err-settled-clause-written : goal.returns-in_err-settled-clause-written
+returns-in_err-settled-clause-written c = all_as_written c.args.bytes.now (λ k _. omega (arith, c.type_inv.bytes k))
+
+pub returns-clause-outcome : goal.returns-clause-outcome
+returns-clause-outcome c = c.in_ok-held.ensures ∙ ap {B = Result Tables Refusal} (λ (t : Tables). Ok t) (sym c.in_ok-settled.ensures)
+
+pub returns-clause-promised : goal.returns-clause-promised
+returns-clause-promised c = promised_of_proper (tables_settled c.in_ok-settled.settled) c.in_ok-settled.settled.held.proper
+
+pub returns-clause-written : goal.returns-clause-written
+returns-clause-written c = all_as_written c.args.bytes.now (λ k _. omega (arith, c.type_inv.bytes k))

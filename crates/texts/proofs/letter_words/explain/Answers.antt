@@ -22,6 +22,13 @@ returns-in_err-verdict c =
     rw (p.1, p.2) (some_from_err (fault_in_letter c.args.letter.now) (verdict_in c.args.letter.now) c.in_err-verdict.field-0.0
     (sym c.in_err-verdict.was ∙ c.check_letter.ensures.told))
 
+pub returns-in_err-text : goal.returns-in_err-text
+unfolding fault_in_letter judged_bytes
+returns-in_err-text c =
+    let p = err_from_is_err_and c.from_residual-in_err-text.result c.from_residual-in_err-text.ensures.1 in
+    rw (p.1, p.2) (none_from_ok (fault_in_letter c.args.letter.now) (verdict_in c.args.letter.now) c.in_ok-verdict.verdict
+    (sym c.in_ok-verdict.was ∙ c.check_letter.ensures.told)).0
+
 pub returns : goal.returns
 unfolding fault_in_letter judged_bytes
 returns c = (
