@@ -1,6 +1,5 @@
 -- One record more: its lot, where its list begins, and the list behind those before it.
 use Rattle.std.proofs.Common.{◌≡◌, ℕ, ◌+◌, refl, ap, ◌∙◌, arith}
-use Rattle.std.proofs.lemmas.List.{length-take, length-drop}
 use Rattle.layout.specs.Bytes.{byte, word, lot_in, count_in, start_of, entries_below}
 use Rattle.layout.specs.Slices.{table, flat}
 use Rattle.layout.proofs.Flats.{length_table}
@@ -37,12 +36,6 @@ slice_bounds-fill_list-end c = omega (arith, record_within _ c.requires.clean _ 
 
 pub slice_bounds-fill_list-end-in-loop-a : goal.slice_bounds-fill_list-end-in-loop-a
 slice_bounds-fill_list-end-in-loop-a c = omega (arith, start_within _ c.requires.clean _ _ c.requires.many c.loop-a-test.true _ c.loop-a.invariant.0)
-
-pub fill_list-requires : goal.fill_list-requires
-fill_list-requires c =
-    let within = record_within _ c.requires.clean _ _ c.requires.many c.loop-a-test.true _ c.loop-a.invariant.0 in
-    let room = start_within _ c.requires.clean _ _ c.requires.many c.loop-a-test.true _ c.loop-a.invariant.0 in
-    simp (length-take, length-drop) (omega arith)
 
 pub loop-a-preserved : goal.loop-a-preserved
 loop-a-preserved c =
