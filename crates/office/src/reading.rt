@@ -1,36 +1,37 @@
 // Reading a round into memory of its own.
-ghost use Rattle.std.specs.Prelude.{◌≡◌, IfOk, Ok, None, MatchResult};
-ghost use Rattle.layout.specs.Bytes.{fault, decode, sizes_in, tables_in};
+ghost use Rattle.std.specs.Prelude.{◌≡◌, Ok, MatchResult};
+ghost use Rattle.layout.specs.Bytes.{fault, decode};
 ghost use Rattle.texts.specs.Faults.{Faulty};
+ghost use Rattle.office.specs.Facts.{FaultyUnlessNoMemory};
 ghost use Rattle.office.specs.Owned.{tables_owned};
 
 use crate::owned::OwnedRound;
 use codec::Space;
 use layout::Sizes;
-use std::alloc::{AllocError, Global};
+use std::alloc::Global;
 use texts::Fault;
 
-// The round that the bytes are, or their fault. Memory is asked for only where they have none.
+// The round that the bytes are, or their fault. Where memory runs out, the bytes are judged all the same: what has a fault is refused.
 pub(crate) fn read_owned(heap: Global, bytes: &[u8]) -> Result<OwnedRound, Fault>
     ensures { MatchResult result (λ o. decode bytes.now ≡ Ok (tables_owned o)) (Faulty (fault bytes.now)) }
 {
-    let sizes = codec::check(bytes)?;
-    let round = read_sized(heap, bytes, sizes)?;
-    Ok(round)
+    let read = read_named(heap, bytes);
+    if let Err(Fault::NoMemory) = read {
+        codec::check(bytes)?;
+    }
+    read
 }
 
-// Reads bytes that are a round of these sizes into memory of just these sizes.
-fn read_sized(heap: Global, bytes: &[u8], sizes: Sizes) -> Result<OwnedRound, AllocError>
-    requires clean { fault bytes.now ≡ None }
-    requires sized { sizes ≡ sizes_in bytes.now }
-    ensures { IfOk result (λ o. tables_owned o ≡ tables_in bytes.now) }
+// Reads a round into memory of the sizes that the bytes name, which nobody has judged yet.
+fn read_named(heap: Global, bytes: &[u8]) -> Result<OwnedRound, Fault>
+    ensures { MatchResult result (λ o. decode bytes.now ≡ Ok (tables_owned o)) (FaultyUnlessNoMemory (fault bytes.now)) }
 {
     let Sizes {
         applicants,
         workshops,
         entries: listed,
         rows,
-    } = sizes;
+    } = codec::measure(bytes);
     let mut seats = vec![in heap; 0u32; workshops + 1]?;
     let mut lots = vec![in heap; 0u16; applicants]?;
     let mut starts = vec![in heap; 0u32; applicants + 1]?;
@@ -56,7 +57,7 @@ fn read_sized(heap: Global, bytes: &[u8], sizes: Sizes) -> Result<OwnedRound, Al
             row_applicants,
             row_points,
         };
-        codec::read(bytes, &mut space).unwrap();
+        codec::read(bytes, &mut space)?;
     }
     Ok(OwnedRound {
         seats,
