@@ -5,4 +5,3 @@ pub mod Refills
 pub mod Promising
 pub mod OtherLists
 pub mod Leaving
-pub mod Roomy

@@ -3,6 +3,7 @@ use Rattle.std.proofs.Common.{◌≡◌, ℕ, List, length, drop, ap, ◌∙◌,
 use Rattle.std.specs.Vec.{with_items}
 use Rattle.std.proofs.lemmas.List.{take_at, drop_all}
 use Rattle.layout.specs.Slices.{over, laid}
+use Rattle.layout.specs.Tables.{tables}
 
 pub items_refilled : {Z : Type 0} (v : Vec ℕ Z) (ws : List ℕ) → length ws ≡ vec_len v → vec_items (with_items v ws) ≡ ws
 items_refilled v ws h = take_at ws (drop (length ws) v.items) v.len h
@@ -21,3 +22,8 @@ pub filled : {T E Z : Type 0} (v : Vec ℕ Z) (r : Result T E) (x : T) (xs old n
 filled v r x xs old now w ok lay is old_long long =
     let all : w ≡ xs = is ∙ whole r x xs old now ok lay (omega arith) in
     items_refilled v w (ap length all ∙ omega arith) ∙ all
+
+-- tables of the same lists
+pub tables_same : (a b c d e f g a' b' c' d' e' f' g' : List ℕ) → a ≡ a' → b ≡ b' → c ≡ c' → d ≡ d' → e ≡ e' → f ≡ f' → g ≡ g' →
+    tables a b c d e f g ≡ tables a' b' c' d' e' f' g'
+tables_same a b c d e f g a' b' c' d' e' f' g' p q r t u v w = rw (p, q, r, t, u, v, w)

@@ -32,10 +32,7 @@ fn push_cuts(text: &mut String, settled: &Settled) -> Result<(), AllocError>
 {
     let m = settled.round().workshops();
     for w in 0..m {
-        match push_cut(text, w, settled.cut(w)) {
-            Ok(()) => {}
-            Err(e) => return Err(e),
-        }
+        push_cut(text, w, settled.cut(w))?;
     }
     Ok(())
 }
@@ -45,12 +42,11 @@ fn push_applicant(text: &mut String, settled: &Settled, a: usize) -> Result<(), 
     requires { a < applicants (tables_settled settled.now) }
     ensures { OnOk result (string_bytes text.new ≡ string_bytes text.old ++ applicant_line (market (tables_settled settled.now)) a) }
 {
-    let told = settled.results()[a];
-    if told == 255 {
+    let Some(position) = settled.position(a) else {
         return push_none(text, a);
-    }
+    };
     let round = settled.round();
-    let position = told as usize;
+    let position = usize::from(position);
     let workshop = round.entries[round.starts[a] as usize + position];
     push_placed(text, a, workshop, position + 1)
 }
@@ -61,10 +57,7 @@ fn push_applicants(text: &mut String, settled: &Settled) -> Result<(), AllocErro
 {
     let n = settled.round().applicants();
     for a in 0..n {
-        match push_applicant(text, settled, a) {
-            Ok(()) => {}
-            Err(e) => return Err(e),
-        }
+        push_applicant(text, settled, a)?;
     }
     Ok(())
 }

@@ -12,6 +12,8 @@ use std::alloc::Global;
 use texts::Fault;
 
 // The round that the bytes are, or their fault. Where memory runs out, the bytes are judged all the same: what has a fault is refused.
+// They are not judged before any memory is asked for, which would be plainer, since that second judging took 0.4 ms of 3.3 on a full-size
+// round.
 pub(crate) fn read_owned(heap: Global, bytes: &[u8]) -> Result<OwnedRound, Fault>
     ensures { MatchResult result (λ o. decode bytes.now ≡ Ok (tables_owned o)) (Faulty (fault bytes.now)) }
 {

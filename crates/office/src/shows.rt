@@ -1,10 +1,12 @@
 // What a settled round shows.
-ghost use Rattle.std.specs.Prelude.{◌≡◌};
+ghost use Rattle.std.specs.Prelude.{◌≡◌, ◌<◌};
 ghost use Rattle.layout.specs.Tables.{applicants as applicants_of};
 ghost use Rattle.codec.specs.Rounds.{tables_of};
 ghost use Rattle.round.specs.Market.{asks as asks_of, placed as placed_of};
 ghost use Rattle.points.specs.Standing.{market};
+ghost use Rattle.asking.specs.Ended.{told};
 ghost use Rattle.cuts.specs.Promised.{cut_at};
+ghost use Rattle.letters.specs.Letter.{place_told};
 ghost use Rattle.office.specs.Outcome.{results_of, letter_told};
 ghost use Rattle.office.specs.Owned.{tables_owned};
 ghost use Rattle.office.specs.Settling.{tables_settled};
@@ -51,6 +53,17 @@ impl Settled {
         ensures { result.now ≡ results_of (tables_settled self.now) }
     {
         self.results.as_slice()
+    }
+
+    // The position in the applicant's list of what it got, from 0, or nothing.
+    pub(crate) fn position(&self, applicant: usize) -> Option<u16>
+        requires { applicant < applicants_of (tables_settled self.now) }
+        ensures { result ≡ place_told (told (market (tables_settled self.now)) applicant) }
+    {
+        match self.results()[applicant] {
+            255 => None,
+            position => Some(position),
+        }
     }
 
     // The number of asks.

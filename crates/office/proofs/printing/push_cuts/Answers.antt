@@ -10,4 +10,4 @@ loop-w-init c = lines_none _ _
 pub loop-w-preserved : goal.loop-w-preserved
 loop-w-preserved c =
     lines_more _ _ _ _ c.loop-w.w c.loop-w.invariant
-    (c.in-Ok.ensures ∙ ap (λ (x : Cut). string_bytes c.loop-w.text ++ cut_line c.loop-w.w x) c.cut.ensures)
+    (c.in_ok-push_cut.ensures ∙ ap (λ (x : Cut). string_bytes c.loop-w.text ++ cut_line c.loop-w.w x) c.cut.ensures)

@@ -9,8 +9,7 @@ use Rattle.layout.specs.declared.Sizes.{Sizes}
 use Rattle.layout.proofs.RoundTrip.{proper_from_no_fault}
 use Rattle.layout.proofs.Told.{length_seats, length_lots, length_starts, length_entries, length_row_starts, length_row_applicants, length_row_points}
 use Rattle.codec.proofs.Rounds.{proper_like}
-use Rattle.office.proofs.Refills.{filled}
-use Rattle.office.proofs.Roomy.{tables_same}
+use Rattle.office.proofs.Refills.{filled, tables_same}
 use Rattle.office.proofs.reading.read_named.Goals as goal
 
 pub invariant_of-result : goal.invariant_of-result

@@ -1,7 +1,6 @@
 use Rattle.std.proofs.Common.{Ok, Result, sym, ap, ◌∙◌, arith}
 use Rattle.std.proofs.lemmas.Result.{err_from_is_err_and}
 use Rattle.layout.specs.Bytes.{fault, tables_in, decode}
-use Rattle.layout.specs.Encode.{BytesOnly}
 use Rattle.layout.specs.Tables.{Tables}
 use Rattle.layout.specs.declared.Refusal.{Refusal}
 use Rattle.layout.proofs.RoundTrip.{all_as_written}

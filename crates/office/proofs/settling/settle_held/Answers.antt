@@ -8,7 +8,6 @@ use Rattle.asking.proofs.Found.{length_rows_found}
 use Rattle.asking.proofs.Sums.{few_entries}
 use Rattle.codec.specs.Rounds.{tables_of}
 use Rattle.codec.proofs.Firsts.{none_from_ok}
-use Rattle.letters.specs.Written.{all_letters}
 use Rattle.layout.specs.Tables.{Tables}
 use Rattle.office.specs.Outcome.{results_of, letters_of}
 use Rattle.office.proofs.Laid.{length_benches, length_letters}
