@@ -66,7 +66,9 @@ fn read_head(bytes: &[u8]) -> Result<usize, Refusal>
     Ok(usize::from(*count))
 }
 
-// The first entry whose cut is reached, once all entries are well formed.
+// The first entry whose cut is reached, once all entries are well formed. The loop counts positions, because a position is what is
+// told, and the entry there begins in the middle of the bytes. Which workshops were seen is marked in a fixed array: nothing is
+// allocated here.
 fn read_entries(bytes: &[u8], lot: Lot, count: usize) -> Result<Option<usize>, Refusal>
     requires counted { count ≡ count_in bytes.now }
     requires few { count ≤ most_entries }
