@@ -26,7 +26,7 @@ impl Addressee<'_> {
         })
     }
 
-    // The same of every place that the list has, and of none.
+    // The same of every place that the list has, and of none. A loop, since `all` could not hand on that memory has run out.
     pub(crate) fn are_judged_well(&self, alloc: Global) -> Result<bool, AllocError> {
         for place in (0..self.applicant.wishes.len()).map(Some).chain([None]) {
             if !self.is_judged_well(alloc, place)? {

@@ -25,6 +25,7 @@ enum Way {
 
 const WAYS: [Way; 4] = [Way::All, Way::Most, Way::Many, Way::Few];
 
+// In a random order: each changes places with another, or with itself.
 fn draw_lots(draw: &mut Draw) -> [u16; APPLICANTS] {
     let mut lots = LOTS[draw.below(LOTS.len())];
     for a in 0..APPLICANTS {

@@ -62,6 +62,7 @@ impl Settled<'_> {
         Ok(len.is_ok_and(|len| out.get(..len) == Some(own.as_slice())))
     }
 
+    // The same of all applicants. A loop, since `all` could not hand on that memory has run out.
     fn are_letters_same(&self, alloc: Global, assigned: Assigned) -> Result<bool, AllocError> {
         for (number, applicant) in assigned.case.applicants.iter().enumerate() {
             let addressee = Addressee {
