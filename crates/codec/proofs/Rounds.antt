@@ -5,19 +5,7 @@ use Rattle.codec.specs.Rounds.{tables_of}
 use Rattle.codec.specs.declared.tables.Round.{Round}
 
 pub proper_round : (r : Round) → Proper (tables_of r)
-proper_round r =
-    record {
-      limited = r.limited;
-      seated = r.seated;
-      started = r.started;
-      named = r.named;
-      distinct = r.distinct;
-      drawn = r.drawn;
-      apart = r.apart;
-      sheeted = r.sheeted;
-      rowed = r.rowed;
-      sorted = r.sorted;
-    }
+proper_round r = r.proper
 
 -- tables that are the same as proper ones are proper
 pub proper_like : (t u : Tables) → u ≡ t → Proper t → Proper u

@@ -1,6 +1,7 @@
 -- A round as tables of numbers: what is read from the bytes, and what every later part works on. n applicants, m workshops.
 -- Then when tables are proper, that is, when they are the tables of some round. Definitions only.
 use Rattle.std.specs.Prelude.{◌≡◌, ℕ, ◌+◌, ◌-◌, ◌^◌, ◌<◌, ◌≤◌, Bool, true, false, not, ◌&&◌, ◌||◌, List, [], ◌∷◌, length, take, drop, ◌==◌, slice_index}
+use Rattle.std.proofs.Props.{props}
 
 -- seats: the sums of the places of the workshops before each one, and of all (m + 1 numbers), so that workshop w has the seats
 -- from seats w up to seats (w + 1). lots: each applicant's lot. starts: where each applicant's list begins in entries, and the end
@@ -144,3 +145,7 @@ pub record Proper (t : Tables) : Type 0 where
   pub sheeted : Sheeted t
   pub rowed : Rowed t
   pub sorted : Sorted t
+
+-- tables are proper in one way only, so that a type may carry that they are
+pub proper_prop : (t : Tables) → IsProp (Proper t)
+proper_prop t = Prim.hlevel props

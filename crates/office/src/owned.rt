@@ -1,6 +1,5 @@
 // A round in owned memory: its tables, and that they are proper in the type itself.
-ghost use Rattle.layout.specs.Tables.{tables, Proper};
-ghost use Rattle.office.specs.Facts.{proper_prop};
+ghost use Rattle.layout.specs.Tables.{tables, Proper, proper_prop};
 
 #[derive(Drop)]
 pub struct OwnedRound {

@@ -21,5 +21,5 @@ returns-then-round-eq0 c = sym (get_or_past c.args.round.now.row_points.now c.ar
 pub returns : goal.returns
 returns c =
     let some : 0 < length c.args.round.now.row_points.now = omega (arith, c.if-round-eq0.false) in
-    let small = c.args.round.now.rowed.3 0 (omega (arith, c.args.round.now.rowed.0, some)) in
+    let small = c.args.round.now.proper.rowed.3 0 (omega (arith, c.args.round.now.proper.rowed.0, some)) in
     shifted c.args.round.now.row_points.now c.args.row c.place_and_shift-i.result c.place_and_shift-i.ensures small

@@ -25,7 +25,7 @@ bounds-round-from c =
     let p = proper_round c.args.round.now in
     let within = row_starts_within t p (c.args.w + 1) (omega arith) in
     let long = length_part (get_or t.row_starts c.args.w 0) (get_or t.row_starts (c.args.w + 1) 0) t.row_applicants (omega arith) in
-    omega (arith, row_in_sheet t p c.args.w c.loop-k.k c.requires.one (omega arith), c.args.round.now.rowed.0)
+    omega (arith, row_in_sheet t p c.args.w c.loop-k.k c.requires.one (omega arith), c.args.round.now.proper.rowed.0)
 
 pub slice_bounds-write_row-end : goal.slice_bounds-write_row-end
 slice_bounds-write_row-end c =

@@ -22,7 +22,7 @@ slice_bounds-cut_of-end c =
     let more = window_more seats c.loop-w.w-iterator.iter c.next.new.self.iter (Some c.in-Some.ends) c.in-Some.ends refl h.0 (omega arith) (omega arith) i.rest in
     let from : get_or c.in-Some.ends.now 0 0 ≡ get_or seats w 0 = more.3 0 0 (omega arith) ∙ ap (λ (k : ℕ). get_or seats k 0) (omega arith) in
     let to : get_or c.in-Some.ends.now 1 0 ≡ get_or seats (w + 1) 0 = more.3 1 0 (omega arith) ∙ ap (λ (k : ℕ). get_or seats k 0) (omega arith) in
-    let within = rises (λ v. get_or seats v 0) (workshops (tables_of round)) round.seated.1 (w + 1) (omega arith) in
+    let within = rises (λ v. get_or seats v 0) (workshops (tables_of round)) round.proper.seated.1 (w + 1) (omega arith) in
     omega arith
 
 pub loop-w-preserved : goal.loop-w-preserved
@@ -45,7 +45,7 @@ loop-w-preserved c =
       left = omega arith;
       rest = more.1;
       long = length-set cuts w _ ∙ i.long;
-      told = λ v l. filled_more (λ u. cut_of_bench t (bench_in t benches u)) cuts w c.cut_of.result Open (omega (arith, c.args.round.now.limited.2)) cut (λ u k. i.told u (omega arith)) v (omega arith);
+      told = λ v l. filled_more (λ u. cut_of_bench t (bench_in t benches u)) cuts w c.cut_of.result Open (omega (arith, c.args.round.now.proper.limited.2)) cut (λ u k. i.told u (omega arith)) v (omega arith);
     }
 
 pub returns : goal.returns

@@ -16,7 +16,7 @@ returns c =
     let a = c.args.applicant in
     let bytes = letter_bytes t c.args.left.rows.now c.args.left.results.now c.args.left.benches.now a in
     let long : length bytes ≡ c.letter_len-len.result =
-    length_letter t round.started c.args.left.rows.now c.args.left.results.now c.args.left.benches.now a ∙ sym c.letter_len-len.ensures
+    length_letter t round.proper.started c.args.left.rows.now c.args.left.results.now c.args.left.benches.now a ∙ sym c.letter_len-len.ensures
     in
     let front : take c.letter_len-len.result c.put_letter.new.part ≡ bytes =
     ap (take c.letter_len-len.result) c.put_letter.ensures ∙ take_at bytes _ _ long

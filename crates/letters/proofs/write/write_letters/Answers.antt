@@ -8,4 +8,4 @@ use Rattle.letters.proofs.write.write_letters.Goals as goal
 pub overflow_add-len : goal.overflow_add-len
 overflow_add-len c =
     let few = few_entries (tables_of c.args.round.now) (tables_proper c.args.round.now) in
-    omega (arith, c.args.round.now.limited.0)
+    omega (arith, c.args.round.now.proper.limited.0)

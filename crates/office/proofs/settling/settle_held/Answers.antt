@@ -16,7 +16,7 @@ use Rattle.office.proofs.Refills.{whole, filled}
 use Rattle.office.proofs.settling.settle_held.Goals as goal
 
 pub overflow_add-round : goal.overflow_add-round
-overflow_add-round c = let few = few_entries (tables_of c.view-round.result) (tables_proper c.view-round.result) in omega (arith, c.view-round.result.limited.0)
+overflow_add-round c = let few = few_entries (tables_of c.view-round.result) (tables_proper c.view-round.result) in omega (arith, c.view-round.result.proper.limited.0)
 
 pub invariant_of-result : goal.invariant_of-result
 unfolding results_of

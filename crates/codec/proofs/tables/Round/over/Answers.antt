@@ -24,21 +24,11 @@ same s a b c d e f g =
 
 pub invariant_of-result : goal.invariant_of-result
 invariant_of-result c =
-    let p =
-    proper_like _ _
-    (same c.args.sizes c.args.space.now.seats.now c.args.space.now.lots.now c.args.space.now.starts.now c.args.space.now.entries.now c.args.space.now.row_starts.now c.args.space.now.row_applicants.now c.args.space.now.row_points.now)
-    c.requires.proper in
     record {
-      limited = p.limited;
-      seated = p.seated;
-      started = p.started;
-      named = p.named;
-      distinct = p.distinct;
-      drawn = p.drawn;
-      apart = p.apart;
-      sheeted = p.sheeted;
-      rowed = p.rowed;
-      sorted = p.sorted;
+      proper =
+          proper_like _ _
+          (same c.args.sizes c.args.space.now.seats.now c.args.space.now.lots.now c.args.space.now.starts.now c.args.space.now.entries.now c.args.space.now.row_starts.now c.args.space.now.row_applicants.now c.args.space.now.row_points.now)
+          c.requires.proper;
     }
 
 pub returns : goal.returns

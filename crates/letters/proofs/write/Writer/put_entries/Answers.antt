@@ -26,7 +26,7 @@ entry-requires c =
     let left = v.left in
     let small : i < n = omega arith in
     let is : c.in-Some.workshop.now ≡ get_or round.entries.now (s + i) 0 = more.1 ∙ part_item round.entries.now s n i small in
-    let named = round.named (s + i) (omega arith) in
+    let named = round.proper.named (s + i) (omega arith) in
     omega arith
 
 pub loop-j-preserved : goal.loop-j-preserved

@@ -15,11 +15,11 @@ use Rattle.letters.proofs.write.Writer.put_letter.Goals as goal
 pub put_entries-requires : goal.put_entries-requires
 put_entries-requires c =
     let round = c.args.self.now.round.now in
-    let end = rises (λ a. get_or round.starts.now a 0) (length round.lots.now) round.started.2 (c.args.applicant + 1) (omega arith) in
-    let up = round.started.2 c.args.applicant c.requires.applicant in
+    let end = rises (λ a. get_or round.starts.now a 0) (length round.lots.now) round.proper.started.2 (c.args.applicant + 1) (omega arith) in
+    let up = round.proper.started.2 c.args.applicant c.requires.applicant in
     record {
       ordered = omega arith;
-      within = omega (arith, round.started.4);
+      within = omega (arith, round.proper.started.4);
       room = omega (arith, length_rest c.put_head.new.part 5, c.put_head.auto.part, c.requires.room);
     }
 

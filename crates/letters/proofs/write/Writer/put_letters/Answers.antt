@@ -13,7 +13,7 @@ loop-a-init c = refl
 
 pub slice_bounds-put_letter-count : goal.slice_bounds-put_letter-count
 slice_bounds-put_letter-count c =
-    let within = letter_within (tables_of c.args.self.now.round.now) c.args.self.now.round.now.started c.args.self.now.left.rows.now c.args.self.now.left.results.now c.args.self.now.left.benches.now c.loop-a.a c.loop-a-test.true in
+    let within = letter_within (tables_of c.args.self.now.round.now) c.args.self.now.round.now.proper.started c.args.self.now.left.rows.now c.args.self.now.left.results.now c.args.self.now.left.benches.now c.loop-a.a c.loop-a-test.true in
     omega (arith, c.requires)
 
 pub slice_bounds-put_letter-start : goal.slice_bounds-put_letter-start
@@ -23,7 +23,7 @@ pub put_letter-requires : goal.put_letter-requires
 put_letter-requires c =
     let t = tables_of c.args.self.now.round.now in
     let a = c.loop-a.a in
-    let within = letter_within t c.args.self.now.round.now.started c.args.self.now.left.rows.now c.args.self.now.left.results.now c.args.self.now.left.benches.now a c.loop-a-test.true in
+    let within = letter_within t c.args.self.now.round.now.proper.started c.args.self.now.left.rows.now c.args.self.now.left.results.now c.args.self.now.left.benches.now a c.loop-a-test.true in
     record {
       applicant = c.loop-a-test.true;
       room = omega (arith, length_rest c.loop-a.part (letter_at t a), c.requires);
@@ -34,6 +34,6 @@ loop-a-preserved c =
     let t = tables_of c.args.self.now.round.now in
     let a = c.loop-a.a in
     let f = letter_bytes t c.args.self.now.left.rows.now c.args.self.now.left.results.now c.args.self.now.left.benches.now in
-    let before = length_letters t c.args.self.now.round.now.started c.args.self.now.left.rows.now c.args.self.now.left.results.now c.args.self.now.left.benches.now a (omega arith) in
+    let before = length_letters t c.args.self.now.round.now.proper.started c.args.self.now.left.rows.now c.args.self.now.left.results.now c.args.self.now.left.benches.now a (omega arith) in
     over_part (flat f a) (f a) c.args.part.now c.loop-a.part c.put_letter.new.part (letter_at t a) c.loop-a.invariant before c.put_letter.ensures
     ∙ ap (λ (xs : List ℕ). over xs c.args.part.now) (sym (flat_more f a))
