@@ -1,14 +1,13 @@
--- What asking and the writing of letters leave in memory that has just their size, and that there is room in it.
-use Rattle.std.proofs.Common.{◌≡◌, ℕ, ◌+◌, ◌*◌, ◌≤◌, List, length, get_or, take, None, arith}
+-- What asking and the writing of letters leave in memory that has just their size.
+use Rattle.std.proofs.Common.{◌≡◌, ℕ, List, length, get_or, take, arith}
 use Rattle.std.proofs.lemmas.List.{take_all}
-use Rattle.std.proofs.lemmas.Bool.Decides.{nat_tests}
 use Rattle.layout.specs.Tables.{Tables, Proper, applicants, workshops}
 use Rattle.layout.proofs.Flats.{length_table, flat_same}
 use Rattle.points.specs.Standing.{market, rows_found}
-use Rattle.asking.specs.Ended.{told, benches_of, no_room}
+use Rattle.asking.specs.Ended.{told, benches_of}
 use Rattle.asking.proofs.Found.{length_rows_found}
 use Rattle.letters.specs.Settled.{Settled}
-use Rattle.letters.specs.Written.{all_letters, letters_room}
+use Rattle.letters.specs.Written.{all_letters}
 use Rattle.letters.proofs.Told.{letters_settled}
 use Rattle.office.specs.Outcome.{results_of, letter_of, letters_of}
 use Rattle.office.proofs.Laid.{length_benches}
@@ -20,14 +19,6 @@ module _ (t : Tables) (proper : Proper t) where
   pub length_results : length (results_of t) ≡ applicants t
   unfolding results_of
   length_results = length_table (told (market t)) (applicants t)
-
-  -- there is room
-  module _ (results benches rows : ℕ) (a : results ≡ applicants t) (b : benches ≡ get_or t.seats (workshops t) 0) (c : rows ≡ length t.entries) where
-    pub room_for_asking : no_room t results benches rows ≡ None
-    room_for_asking = grind (arith, nat_tests)
-
-    pub room_for_letters : (out : ℕ) → 6 * applicants t + 8 * length t.entries ≤ out → letters_room t results benches rows out ≡ None
-    room_for_letters out d = grind (arith, nat_tests)
 
   -- the letters that are written are those of the round
   module _ (rows results benches : List ℕ) (found : rows ≡ rows_found t) (told_in : results ≡ results_of t) (seated : benches ≡ benches_of t) where

@@ -1,5 +1,5 @@
 -- The entries of a letter without faults are all there, and so is the one that was got.
-use Rattle.std.proofs.Common.{◌≡◌, ℕ, ◌+◌, ◌<◌, ◌≤◌, Bool, true, false, not, ◌&&◌, eqb, ltb, leb, List, length, Some, None, Option, sym, refl, ap, ◌∙◌, arith}
+use Rattle.std.proofs.Common.{◌≡◌, ℕ, ◌+◌, ◌<◌, ◌≤◌, Bool, true, false, not, ◌&&◌, eqb, ltb, leb, List, length, Some, None, Option, sym, refl, ap, arith}
 use Rattle.std.proofs.lemmas.Bool.{lt-ltb, ltb-false}
 use Rattle.std.proofs.lemmas.Bool.Decides.{nat_tests}
 use Rattle.layout.specs.Slices.{or_else}
@@ -9,7 +9,9 @@ use Rattle.layout.specs.declared.Lot.{Lot}
 use Rattle.cuts.specs.Cuts.{reached}
 use Rattle.letters.specs.Letter.{count_in, entry_at, place_at, place_told, part_at, entry_in}
 use Rattle.letters.specs.Faults.{letter_fault, missing, head_fault, workshop_seen, listed_fault, end_fault, within, entry_fault, taken_from, entry_told}
+use Rattle.layout.specs.declared.Refusal.{Refusal}
 use Rattle.layout.specs.declared.Refusal.TheVariants.{Malformed}
+use Rattle.std.specs.Option.{IsNone}
 use Rattle.letters.specs.declared.entry.Entry.{Entry}
 use Rattle.texts.specs.Words.{wish_line, got_line, got_none_line, entry_line, place_line}
 
@@ -22,11 +24,16 @@ within_none at (Some k) e h = let z : ◌≡◌ {A = ℕ} 0 1 = cc in absurd (om
 place_is : (n place : ℕ) → Some place ≡ place_told n → (place ≡ n) × (n ≡ 255 → ⊥)
 place_is n place told = grind (arith, nat_tests)
 
-module _ (b : List ℕ) (whole : letter_fault b ≡ None) where
+-- no fault, as a type says it
+none_of : (f : Option Refusal) → IsNone f → f ≡ None
+none_of None h = refl
+none_of (Some e) h = let z : ◌≡◌ {A = ℕ} 0 1 = cc in absurd (omega arith)
+
+module _ (b : List ℕ) (right : IsNone (letter_fault b)) where
   parts : (head_fault b ≡ None) × (first_of (listed_fault b) (count_in b) ≡ None) × (end_fault b ≡ None)
   unfolding letter_fault
   parts =
-      let p = or_else_none (head_fault b) _ whole in
+      let p = or_else_none (head_fault b) _ (none_of (letter_fault b) right) in
       let q = or_else_none (first_of (listed_fault b) (count_in b)) (end_fault b) p.1 in
       (p.0, q.0, q.1)
 

@@ -1,5 +1,6 @@
 // A letter in words.
-ghost use Rattle.std.specs.Prelude.{◌≡◌, ◌<◌, ◌++◌, IfOk, None, string_bytes, MatchResult, OnOk};
+ghost use Rattle.std.specs.Coded.{Coded-set};
+ghost use Rattle.std.specs.Prelude.{◌≡◌, ◌<◌, ◌++◌, IfOk, IsNone, None, string_bytes, MatchResult, OnOk};
 ghost use Rattle.layout.specs.Bytes.{byte, word};
 ghost use Rattle.layout.specs.Slices.{flat};
 ghost use Rattle.letters.specs.Faults.{letter_fault, verdict_in};
@@ -19,54 +20,66 @@ pub fn explain(heap: Global, letter: &[u8]) -> Result<String, Fault>
     ensures { MatchResult result (λ s. (fault_in_letter letter.now ≡ None) × (string_bytes s ≡ words_of letter.now)) (Faulty (fault_in_letter letter.now)) }
 {
     let verdict = check_letter(letter)?;
-    let text = in_words(heap, letter, verdict)?;
+    let right = Right { letter, verdict };
+    let text = right.in_words(heap)?;
     Ok(text)
 }
 
-// The words of a letter that was found right.
-fn in_words(heap: Global, letter: &[u8], verdict: Verdict) -> Result<String, AllocError>
-    requires whole { letter_fault letter.now ≡ None }
-    requires read { verdict ≡ verdict_in letter.now }
-    ensures { IfOk result (λ s. string_bytes s ≡ words_of letter.now) }
-{
-    let Verdict {
-        applicant,
-        lot,
-        entries,
-        place,
-    } = verdict;
-    let Lot(number) = lot;
-    let mut text = String::new(heap);
-    writeln!(text, "applicant {applicant} lot {number}")?;
-    push_wishes(&mut text, letter, lot, entries)?;
-    push_place(&mut text, letter, place)?;
-    writeln!(text, "accepted")?;
-    Ok(text)
+// A letter that was found right, and what the checker says of it.
+#[derive(Clone, Copy)]
+struct Right<'a> {
+    letter: &'a [u8],
+    verdict: Verdict,
+    ghost whole: { IsNone (letter_fault letter.now) },
+    ghost read: { verdict ≡ verdict_in letter.now } by { Coded-set verdict-code _ _ },
 }
 
-// The lines of all wishes.
-fn push_wishes(text: &mut String, letter: &[u8], lot: Lot, entries: usize) -> Result<(), AllocError>
-    requires whole { letter_fault letter.now ≡ None }
-    requires lot { lot.0 ≡ word letter.now 2 }
-    requires entries { entries ≡ count_in letter.now }
-    ensures { OnOk result (string_bytes text.new ≡ string_bytes text.old ++ flat (entry_line letter.now) (count_in letter.now)) }
-{
-    for j in 0..entries {
-        push_entry(text, letter, lot, j)?;
+impl Right<'_> {
+    // The letter in words.
+    fn in_words(&self, heap: Global) -> Result<String, AllocError>
+        ensures { IfOk result (λ s. string_bytes s ≡ words_of self.now.letter.now) }
+    {
+        let applicant = self.verdict.applicant;
+        let Lot(lot) = self.verdict.lot;
+        let mut text = String::new(heap);
+        writeln!(text, "applicant {applicant} lot {lot}")?;
+        self.push_wishes(&mut text)?;
+        self.push_place(&mut text)?;
+        writeln!(text, "accepted")?;
+        Ok(text)
     }
-    Ok(())
-}
 
-// Reads one wish, and puts its line behind the text.
-fn push_entry(text: &mut String, letter: &[u8], lot: Lot, j: usize) -> Result<(), AllocError>
-    requires whole { letter_fault letter.now ≡ None }
-    requires lot { lot.0 ≡ word letter.now 2 }
-    requires within { j < count_in letter.now }
-    ensures { OnOk result (string_bytes text.new ≡ string_bytes text.old ++ entry_line letter.now j) }
-{
-    let entry = entry_at(letter, j).unwrap();
-    let reached = reaches(entry.points, lot, entry.cut);
-    push_wish(text, j + 1, entry, reached)
+    // The lines of all wishes.
+    fn push_wishes(&self, text: &mut String) -> Result<(), AllocError>
+        ensures { OnOk result (string_bytes text.new ≡ string_bytes text.old ++ flat (entry_line self.now.letter.now) (count_in self.now.letter.now)) }
+    {
+        for j in 0..self.verdict.entries {
+            self.push_entry(text, j)?;
+        }
+        Ok(())
+    }
+
+    // Reads one wish, and puts its line behind the text.
+    fn push_entry(&self, text: &mut String, j: usize) -> Result<(), AllocError>
+        requires { j < count_in self.now.letter.now }
+        ensures { OnOk result (string_bytes text.new ≡ string_bytes text.old ++ entry_line self.now.letter.now j) }
+    {
+        let entry = entry_at(self.letter, j).unwrap();
+        let reached = reaches(entry.points, self.verdict.lot, entry.cut);
+        push_wish(text, j + 1, entry, reached)
+    }
+
+    // What was got.
+    fn push_place(&self, text: &mut String) -> Result<(), AllocError>
+        ensures { OnOk result (string_bytes text.new ≡ string_bytes text.old ++ place_line self.now.letter.now) }
+    {
+        let Some(place) = self.verdict.place else {
+            return writeln!(text, "got none");
+        };
+        let Entry { workshop, .. } = entry_at(self.letter, place).unwrap();
+        let wish = place + 1;
+        writeln!(text, "got wish {wish} workshop {workshop}")
+    }
 }
 
 // The line of one wish: the workshop, the own points there, the cut, and whether it is reached.
@@ -83,18 +96,4 @@ fn push_wish(text: &mut String, wish: usize, entry: Entry, reached: bool) -> Res
         text,
         "wish {wish} workshop {workshop} points {points} cut {cut} {reached}"
     )
-}
-
-// What was got.
-fn push_place(text: &mut String, letter: &[u8], place: Option<usize>) -> Result<(), AllocError>
-    requires whole { letter_fault letter.now ≡ None }
-    requires place { place ≡ place_told (byte letter.now (place_at letter.now)) }
-    ensures { OnOk result (string_bytes text.new ≡ string_bytes text.old ++ place_line letter.now) }
-{
-    let Some(place) = place else {
-        return writeln!(text, "got none");
-    };
-    let Entry { workshop, .. } = entry_at(letter, place).unwrap();
-    let wish = place + 1;
-    writeln!(text, "got wish {wish} workshop {workshop}")
 }
