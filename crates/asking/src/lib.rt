@@ -22,7 +22,7 @@ pub struct Outcome {
 }
 
 // The slices that asking works on: a row for every list entry, a result for every applicant, and all the benches, one after the
-// other. They are lent for a run.
+// other. They are lent for a run, as all data of a round lies in lent slices of numbers.
 #[derive(Drop)]
 pub struct Desk<'a> {
     pub rows: &'a mut [u32],
@@ -92,7 +92,8 @@ pub fn run(round: &Round, desk: &mut Desk) -> Result<Outcome, Refusal>
     Ok(Outcome { asks, placed })
 }
 
-// Lets all ask, one after the other: each applicant in its turn, and whoever is turned down for it. The number of asks.
+// Lets all ask, one after the other: each applicant in its turn, and whoever is turned down for it. The number of asks. The loop goes
+// over numbers, since a number is who asks; how far each has come stands in the results, and is counted there.
 fn ask_all(round: &Round, desk: &mut Desk) -> usize
     requires found { take (length (tables_of round.now).entries) desk.old.rows.now ≡ rows_found (tables_of round.now) }
     requires asking { Asking (tables_of round.now) (at_rest (tables_of round.now) desk.old.results.now) desk.old.results.now desk.old.benches.now }
@@ -149,7 +150,7 @@ fn ask_next(round: &Round, desk: &mut Desk, asker: usize) -> Option<usize>
     }
 }
 
-// What an applicant is told who has no place.
+// What an applicant is told who has no place: results are numbers of a lent slice, so none is one of them.
 const NO_PLACE: u16 = 255;
 
 // Writes over how many entries each has asked what it is told: the position of the last of them, or 255 where its list is used up. How

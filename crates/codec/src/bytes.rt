@@ -3,7 +3,8 @@
 ghost use Rattle.std.specs.Prelude.{◌≡◌, ◌+◌, ◌≤◌, length, option_copied, slice_range, OnSome};
 ghost use Rattle.layout.specs.Bytes.{byte, word};
 
-// The bytes, and where the next number stands: never past their end.
+// The bytes, and where the next number stands: never past their end. Each method says that the bytes stay, which a type cannot say of a
+// value before and after a call.
 #[derive(Drop)]
 pub(crate) struct Reader<'a> {
     pub(crate) bytes: &'a [u8],

@@ -22,7 +22,7 @@ fn word_or_zero(bytes: &[u8], at: usize) -> u16
 }
 
 // The sizes of the round that the bytes are, if they are one. Nothing is judged: other bytes name sizes too, and what is past their
-// end counts as 0. Only the counts are looked at, from record to record.
+// end counts as 0. Only the counts are looked at, from record to record, with a cursor, since records are of changing length.
 pub fn measure(bytes: &[u8]) -> Sizes
     ensures { result ≡ sizes_in bytes.now }
 {

@@ -90,7 +90,7 @@ fn write_sheet(round: &Round, w: usize, out: &mut [u8])
     }
 }
 
-// The rows of all workshops.
+// The rows of all workshops, which are of changing number: workshop w's begin behind five bytes for each row before.
 fn write_sheets(round: &Round, out: &mut [u8])
     requires { length out.old ≡ 5 * rows_of (tables_of round.now) }
     ensures { out.new ≡ flat (sheet_bytes (tables_of round.now)) (workshops_of (tables_of round.now)) }

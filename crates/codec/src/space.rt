@@ -1,4 +1,5 @@
-// Space that is lent for the tables of a round: a slice for each of the seven tables. What is read lies at the front of each.
+// Space that is lent for the tables of a round: a slice for each of the seven tables, since all data of a round lies in lent slices of
+// numbers. What is read lies at the front of each.
 #[derive(Drop)]
 pub struct Space<'a> {
     pub seats: &'a mut [u32],

@@ -26,7 +26,7 @@ pub fn report(heap: Global, settled: &Settled) -> Result<String, AllocError>
     Ok(text)
 }
 
-// The lines of all cuts.
+// The lines of all cuts: by number, which the line says.
 fn push_cuts(text: &mut String, settled: &Settled) -> Result<(), AllocError>
     ensures { OnOk result (string_bytes text.new ≡ string_bytes text.old ++ flat (λ w. cut_line w (cut_at (tables_settled settled.now) w)) (workshops (tables_settled settled.now))) }
 {
@@ -51,7 +51,7 @@ fn push_applicant(text: &mut String, settled: &Settled, a: usize) -> Result<(), 
     push_placed(text, a, workshop, position + 1)
 }
 
-// The lines of all applicants.
+// The lines of all applicants: by number, which the line says.
 fn push_applicants(text: &mut String, settled: &Settled) -> Result<(), AllocError>
     ensures { OnOk result (string_bytes text.new ≡ string_bytes text.old ++ flat (applicant_line (market (tables_settled settled.now))) (applicants (tables_settled settled.now))) }
 {

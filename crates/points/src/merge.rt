@@ -41,7 +41,8 @@ fn find_row(round: &Round, passed: &mut [u32], w: usize, applicant: usize) -> Op
         .then_some((from + more) as u32)
 }
 
-// Writes, for each entry of an applicant's list, the number of its row, or `u32::MAX` where there is none.
+// Writes, for each entry of an applicant's list, the number of its row, or `u32::MAX` where there is none. The index is counted, because
+// nothing is known of a slice that was written through a zip.
 fn find_list(round: &Round, passed: &mut [u32], list: &[u16], applicant: usize, rows: &mut [u32])
     requires named { (k : ℕ) → k < length list.now → slice_index list.now k < workshops (tables_of round.now) }
     requires room { length rows.old ≡ length list.now }
@@ -56,7 +57,7 @@ fn find_list(round: &Round, passed: &mut [u32], list: &[u16], applicant: usize, 
 }
 
 // Writes, for every list entry of every applicant, the number of its row, or `u32::MAX` where there is none, and gives the number of
-// entries. A slice that is too short is refused and stays as it is.
+// entries. A slice that is too short is refused and stays as it is. The loop goes over the applicants' numbers, which the rows name.
 pub fn find_rows(round: &Round, rows: &mut [u32]) -> Result<usize, Refusal>
     ensures rows { rows.new ≡ laid result (rows_found (tables_of round.now)) rows.old }
     ensures outcome { result ≡ outcome (refuse (nat_lt (length rows.old) (length (tables_of round.now).entries)) (NoRoom RoundTables)) (length (tables_of round.now).entries) }

@@ -23,7 +23,8 @@ fn letter_path(heap: Global, dir: &str, applicant: usize) -> Result<String, Allo
     format!(in heap; "{dir}/{applicant:04}.letter")
 }
 
-// All letters, each in a file of its own. Where one cannot be written, says which it is and that those before it are there.
+// All letters, each in a file of its own, which the applicant's number names. Where one cannot be written, says which it is and that those
+// before it are there.
 fn write_letters(rt: &HostRuntime, settled: &Settled, dir: &str) -> Result<(), Failed> {
     if let Err(e) = fs::create_dir_all(rt, dir) {
         eprintln!(rt; "run_round: cannot make the folder {dir}: {e}; no letter was written")?;

@@ -49,7 +49,7 @@ impl Right<'_> {
         Ok(text)
     }
 
-    // The lines of all wishes.
+    // The lines of all wishes: by number, which the line says.
     fn push_wishes(&self, text: &mut String) -> Result<(), AllocError>
         ensures { OnOk result (string_bytes text.new ≡ string_bytes text.old ++ flat (entry_line self.now.letter.now) (count_in self.now.letter.now)) }
     {

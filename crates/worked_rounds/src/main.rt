@@ -28,7 +28,7 @@ fn accepted(heap: Global, settled: &Settled) -> Result<usize, Failed> {
     Ok(number)
 }
 
-// The round of one file; a refusal is told as `run_round` tells it.
+// The round of one file. A refusal is told as `run_round` tells it, and is no failure here: so a match, and no `?`.
 fn show_round(rt: &HostRuntime, file: &str) -> Result<(), Failed> {
     let bytes = console::input(rt, file)?;
     println!(rt; "== {file}")?;
