@@ -1,5 +1,3 @@
-use Rattle.std.proofs.Common.{◌≡◌, ap, arith}
-use Rattle.letters.specs.declared.check.Verdict.{Verdict}
 use Rattle.texts.proofs.Appends.{lines_none, lines_more}
 use Rattle.texts.proofs.letter_words.Right.push_wishes.Goals as goal
 
@@ -8,9 +6,3 @@ loop-j-init c = lines_none _ _
 
 pub loop-j-preserved : goal.loop-j-preserved
 loop-j-preserved c = lines_more _ _ _ _ c.loop-j.j c.loop-j.invariant c.in_ok-push_entry.ensures
-
-pub returns : goal.returns
-returns c =
-    let many = ap (λ (v : Verdict). v.entries) c.args.self.now.read in
-    let all : c.loop-j.j ≡ c.args.self.now.verdict.entries = omega arith in
-    rw (← many, ← all) c.loop-j.invariant
