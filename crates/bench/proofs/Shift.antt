@@ -1,9 +1,8 @@
 -- The loop of an ask: seat by seat from the last one up, whoever goes behind the asker moves down by one.
 use Rattle.std.proofs.Common.{◌≡◌, ℕ, zero, suc, ◌+◌, ◌-◌, ◌<◌, Bool, true, false, cond, eqb, ltb, List, [], ◌∷◌, ◌++◌, length, get_or, reverse, take, drop, set, sym, refl, ap, ◌∙◌, inl, inr, arith}
-use Rattle.std.proofs.lemmas.List.{append-nil, length-reverse, length-take-le, length-drop, take_all, drop_more, drop_all, get_or-reverse, get_or-drop, set_at}
+use Rattle.std.proofs.lemmas.List.{append-nil, append_assoc, length-reverse, length-take-le, length-drop, take_more, drop_all, get_or-reverse, get_or-drop, set_at}
 use Rattle.std.proofs.lemmas.List.Sums.{prefix_len_passes, prefix_len_stops, suffix_len-le-length}
-use Rattle.std.specs.List.{suffix_len}
-use borrow.Rule.Slice.PartMut.{put_mid}
+use Rattle.std.specs.List.{suffix_len, copy_within}
 use Rattle.std.proofs.lemmas.Bool.{cond-true, cond-false, and_left, and_right, and_from, eq-eqb, ne_eqb, ltb-true, cases_lt, false≢true}
 use Rattle.points.specs.Standing.{no_row}
 use Rattle.bench.specs.Row.{leads, taken_in, left_out, last_seat, answer_of}
@@ -23,32 +22,18 @@ last_seat_at x (suc i) (y ∷ ys) e = last_seat_at y i ys (omega arith)
 pub last_seat_getD : (x : ℕ) (ys : List ℕ) → 0 < length ys → last_seat x ys ≡ get_or ys (length ys - 1) 0
 last_seat_getD x ys h = last_seat_at x (length ys - 1) ys (omega arith)
 
--- the last seat comes first
-abbrev pub Turned : List ℕ → List ℕ → Type 0
-Turned part zs = zs ≡ drop (length part - 1) part ++ take (length part - 1) part
-
--- x in the seat of who came first
-turned_set : (x : ℕ) (ys zs : List ℕ) (i m k : ℕ) → i + suc m ≡ length ys → k ≡ length ys - i → Turned (take k (drop i ys)) zs →
-    set (put_mid i k ys zs) i x ≡ take i ys ++ (x ∷ take m (drop i ys))
-turned_set x ys zs i m k e few moved =
-    let part : List ℕ = drop i ys in
-    let long : length part ≡ suc m = omega (arith, length-drop i ys) in
-    let whole : take k part ≡ part = take_all k part (omega arith) in
-    let off : length (take k part) - 1 ≡ m = omega (arith, ap (λ (ws : List ℕ). length ws) whole) in
-    let last : drop m part ≡ get_or part m 0 ∷ [] =
-    drop_more part m 0 (omega arith) ∙ ap (λ (ws : List ℕ). get_or part m 0 ∷ ws) (drop_all (m + 1) part (omega arith))
-    in
-    let turned : zs ≡ get_or part m 0 ∷ take m part =
-    moved
-    ∙ ap (λ (ws : List ℕ). drop (length ws - 1) ws ++ take (length ws - 1) ws) whole
-    ∙ ap (λ j. drop j part ++ take j part) (omega arith)
-    ∙ ap (λ (ws : List ℕ). ws ++ take m part) last
-    in
-    let behind : drop k part ≡ [] = drop_all k part (omega arith) in
-    ap (λ (ws : List ℕ). set (take i ys ++ (ws ++ drop k part)) i x) turned
-    ∙ ap (λ (ws : List ℕ). set (take i ys ++ ((get_or part m 0 ∷ take m part) ++ ws)) i x) behind
-    ∙ ap (λ (ws : List ℕ). set (take i ys ++ ws) i x) (append-nil (get_or part m 0 ∷ take m part))
-    ∙ set_at (take i ys) (get_or part m 0) (take m part) x i (length-take-le i ys (omega arith))
+-- all from seat i on move down by one, and x sits down there
+moved_set : (x : ℕ) (ys : List ℕ) (i m : ℕ) → i + suc m ≡ length ys → set (copy_within ys i (length ys - 1) (i + 1)) i x ≡ take i ys ++ (x ∷ take m (drop i ys))
+moved_set x ys i m e =
+    let front : List ℕ = take i ys in
+    let rest : List ℕ = take m (drop i ys) in
+    let gone : drop (i + 1 + (length ys - 1 - i)) ys ≡ [] = drop_all (i + 1 + (length ys - 1 - i)) ys (omega arith) in
+    ap (λ (ws : List ℕ). set ((take (i + 1) ys ++ take (length ys - 1 - i) (drop i ys)) ++ ws) i x) gone
+    ∙ ap (λ (ws : List ℕ). set ws i x) (append-nil (take (i + 1) ys ++ take (length ys - 1 - i) (drop i ys)))
+    ∙ ap (λ n. set (take (i + 1) ys ++ take n (drop i ys)) i x) (omega arith)
+    ∙ ap (λ (ws : List ℕ). set (ws ++ rest) i x) (take_more ys i 0 (omega arith))
+    ∙ ap (λ (ws : List ℕ). set ws i x) (append_assoc front (get_or ys i 0 ∷ []) rest)
+    ∙ set_at front (get_or ys i 0) rest x i (length-take-le i ys (omega arith))
 
 module _ (v : ℕ → ℕ) (x : ℕ) where
   leads_all : (ys : List ℕ) → ((k : ℕ) → k < length ys → ltb (v (get_or ys k 0)) (v x) ≡ true) → leads v x ys ≡ true
@@ -113,11 +98,11 @@ module _ (v : ℕ → ℕ) (x : ℕ) where
   taken_in_none (y ∷ ys) e = taken_in_same (length ys) 0 (y ∷ ys) (omega arith) (last_stays y ys e)
 
   -- so many go behind: they move down by one
-  pub taken_in_moved : (ys zs : List ℕ) (i k : ℕ) → 0 < suffix_len (λ y. ltb (v y) (v x)) ys → i + suffix_len (λ y. ltb (v y) (v x)) ys ≡ length ys → k ≡ length ys - i →
-      Turned (take k (drop i ys)) zs → set (put_mid i k ys zs) i x ≡ taken_in v x ys
-  taken_in_moved ys zs i k h all few moved =
+  pub taken_in_moved : (ys : List ℕ) (i : ℕ) → 0 < suffix_len (λ y. ltb (v y) (v x)) ys → i + suffix_len (λ y. ltb (v y) (v x)) ys ≡ length ys →
+      set (copy_within ys i (length ys - 1) (i + 1)) i x ≡ taken_in v x ys
+  taken_in_moved ys i h all =
       let n : ℕ = suffix_len (λ y. ltb (v y) (v x)) ys in
-      turned_set x ys zs i (n - 1) k (omega arith) few moved
+      moved_set x ys i (n - 1) (omega arith)
       ∙ taken_in_at i (n - 1) ys (omega arith)
       (leads_all (drop i ys)
       (λ j l.

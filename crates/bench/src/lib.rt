@@ -54,8 +54,9 @@ pub fn ask(bench: &mut [u32], round: &Round, row: u32) -> Answer
     let Some(seat) = seat_for(bench, round, row) else {
         return Answer::TurnedDown;
     };
-    let last = bench[bench.len() - 1];
-    bench[seat..].rotate_right(1);
+    let last_seat = bench.len() - 1;
+    let last = bench[last_seat];
+    bench.copy_within(seat..last_seat, seat + 1);
     bench[seat] = row;
     seated(last)
 }

@@ -1,5 +1,5 @@
 -- Whoever goes behind the asker moves down by one; the asker sits down where somebody stays ahead, or at the first seat.
-use Rattle.std.proofs.Common.{◌≡◌, refl, sym, ◌∙◌}
+use Rattle.std.proofs.Common.{◌≡◌, ℕ, List, set, sym, ap, ◌∙◌}
 use Rattle.codec.specs.declared.tables.Round.{Round}
 use Rattle.codec.specs.Rounds.{tables_of}
 use Rattle.points.specs.Standing.{row_worth, no_row}
@@ -13,7 +13,8 @@ none r = row_worth_no_row (tables_of r) (tables_proper r)
 
 pub returns : goal.returns
 returns c =
-    let sat = taken_in_moved (row_worth (tables_of c.args.round.now)) c.args.row c.args.bench.now _ _ _ c.in-Some.ensures.0 c.in-Some.ensures.1 refl c.rotate_right.ensures.after in
+    let sat = ap (λ (ys : List ℕ). set ys c.in-Some.seat c.args.row) c.copy_within.ensures.after
+        ∙ taken_in_moved (row_worth (tables_of c.args.round.now)) c.args.row c.args.bench.now c.in-Some.seat c.in-Some.ensures.0 c.in-Some.ensures.1 in
     record {
       bench = sat;
       best = best_of_taken_in _ (none c.args.round.now) _ _ _ sat;
