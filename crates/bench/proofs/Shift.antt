@@ -1,9 +1,9 @@
 -- The loop of an ask: seat by seat from the last one up, whoever goes behind the asker moves down by one.
-use Rattle.std.proofs.Common.{◌≡◌, ℕ, zero, suc, ◌+◌, ◌-◌, ◌<◌, Bool, true, false, cond, eqb, ltb, List, [], ◌∷◌, ◌++◌, length, get_or, reverse, take, drop, set, sym, refl, ap, ◌∙◌, inl, inr, arith}
+use Rattle.std.proofs.Common.{◌≡◌, ℕ, zero, suc, ◌+◌, ◌-◌, ◌<◌, Bool, true, false, cond, eqb, ltb, List, [], ◌∷◌, ◌++◌, length, get_or, reverse, take, drop, set, sym, refl, ap, ◌∙◌, arith}
 use Rattle.std.proofs.lemmas.List.{append-nil, append_assoc, length-reverse, length-take-le, length-drop, take_more, drop_all, get_or-reverse, get_or-drop, set_at}
 use Rattle.std.proofs.lemmas.List.Sums.{prefix_len_passes, prefix_len_stops, suffix_len-le-length}
 use Rattle.std.specs.List.{suffix_len, copy_within}
-use Rattle.std.proofs.lemmas.Bool.{cond-true, cond-false, and_left, and_right, and_from, eq-eqb, ne_eqb, ltb-true, cases_lt, false≢true}
+use Rattle.std.proofs.lemmas.Bool.{cond-true, cond-false, and_left, and_right, and_from, eq-eqb, ne_eqb, ltb-true}
 use Rattle.points.specs.Standing.{no_row}
 use Rattle.bench.specs.Row.{leads, taken_in, left_out, last_seat, answer_of}
 use Rattle.bench.specs.declared.Answer.TheVariants.{Kept, Displaced, TurnedDown}
@@ -79,17 +79,6 @@ module _ (v : ℕ → ℕ) (x : ℕ) where
 
   last_stays : (y : ℕ) (ys : List ℕ) → suffix_len (λ z. ltb (v z) (v x)) (y ∷ ys) ≡ 0 → ltb (v (get_or (y ∷ ys) (length ys) 0)) (v x) ≡ false
   last_stays y ys e = let last : length (y ∷ ys) - 1 - suffix_len (λ z. ltb (v z) (v x)) (y ∷ ys) ≡ length ys = omega (arith, e) in rw last at (stops (y ∷ ys) (omega arith))
-
-  -- where the last one goes behind, some do
-  pub some_behind : (ys : List ℕ) → 0 < length ys → ltb (v (get_or ys (length ys - 1) 0)) (v x) ≡ true → 0 < suffix_len (λ y. ltb (v y) (v x)) ys
-  some_behind ys h e =
-      elim (cases_lt 0 (suffix_len (λ y. ltb (v y) (v x)) ys)) [
-        | inl k ↦ k
-        | inr k ↦
-            (let at : length ys - 1 - suffix_len (λ y. ltb (v y) (v x)) ys ≡ length ys - 1 = omega arith in
-            let no = rw at at (stops ys (omega arith)) in
-            absurd (false≢true (sym no ∙ e)))
-      ]
 
   -- nobody goes behind: the bench stays as it is
   pub taken_in_none : (ys : List ℕ) → suffix_len (λ y. ltb (v y) (v x)) ys ≡ 0 → taken_in v x ys ≡ ys

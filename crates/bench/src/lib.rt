@@ -21,11 +21,11 @@ pub enum Answer {
     TurnedDown,
 }
 
-// How many rows at the end of a bench go behind `row`, one after the other.
-fn behind(bench: &[u32], round: &Round, row: u32) -> usize
-    ensures { result ≡ suffix_len (λ other. nat_lt (row_worth (tables_of round.now) other) (row_worth (tables_of round.now) row)) bench.now }
+// How many rows at the end of these seats go behind `row`, one after the other.
+fn behind(seats: &[u32], round: &Round, row: u32) -> usize
+    ensures { result ≡ suffix_len (λ other. nat_lt (row_worth (tables_of round.now) other) (row_worth (tables_of round.now) row)) seats.now }
 {
-    bench
+    seats
         .iter()
         .rev()
         .take_while(|other| points::row_ahead(round, row, **other))
@@ -33,15 +33,17 @@ fn behind(bench: &[u32], round: &Round, row: u32) -> usize
 }
 
 // The first seat from which on `row` goes ahead of everybody; none if it does not go ahead of the last, whom most askers stay behind,
-// so that one is looked at alone first.
+// so that one is looked at alone first, and not again with those in front of it.
 fn seat_for(bench: &[u32], round: &Round, row: u32) -> Option<usize>
     ensures { let behind = suffix_len (λ other. nat_lt (row_worth (tables_of round.now) other) (row_worth (tables_of round.now) row)) bench.now in MatchOption result (behind ≡ 0) (λ seat. (0 < behind) × (seat + behind ≡ length bench.now)) }
 {
-    let last = *bench.last()?;
-    if !points::row_ahead(round, row, last) {
+    let [front @ .., last] = bench else {
+        return None;
+    };
+    if !points::row_ahead(round, row, *last) {
         return None;
     }
-    Some(bench.len() - behind(bench, round, row))
+    Some(front.len() - behind(front, round, row))
 }
 
 // A row asks for a seat on a bench, whose seats hold rows, best first, and `u32::MAX` where they are empty. The row in the last seat

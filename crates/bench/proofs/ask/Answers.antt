@@ -14,7 +14,7 @@ none r = row_worth_no_row (tables_of r) (tables_proper r)
 pub returns : goal.returns
 returns c =
     let sat = ap (λ (ys : List ℕ). set ys c.in-Some.seat c.args.row) c.copy_within.ensures.after
-        ∙ taken_in_moved (row_worth (tables_of c.args.round.now)) c.args.row c.args.bench.now c.in-Some.seat c.in-Some.ensures.0 c.in-Some.ensures.1 in
+    ∙ taken_in_moved (row_worth (tables_of c.args.round.now)) c.args.row c.args.bench.now c.in-Some.seat c.in-Some.ensures.0 c.in-Some.ensures.1 in
     record {
       bench = sat;
       best = best_of_taken_in _ (none c.args.round.now) _ _ _ sat;
