@@ -1,4 +1,4 @@
--- The loop of an ask: seat by seat from the last one up, whoever goes behind the asker moves down by one.
+-- What an ask does to a bench: from the last seat up, whoever goes behind the asker moves down by one.
 use Rattle.std.proofs.Common.{◌≡◌, ℕ, zero, suc, ◌+◌, ◌-◌, ◌<◌, Bool, true, false, cond, eqb, ltb, List, [], ◌∷◌, ◌++◌, length, get_or, reverse, take, drop, set, sym, refl, ap, ◌∙◌, arith}
 use Rattle.std.proofs.lemmas.List.{append-nil, append_assoc, length-reverse, length-take-le, length-drop, take_more, drop_all, get_or-reverse, get_or-drop, set_at}
 use Rattle.std.proofs.lemmas.List.Sums.{prefix_len_passes, prefix_len_stops, suffix_len-le-length}
