@@ -53,7 +53,7 @@ no_room t results benches rows =
     (or_else (refuse (nat_lt benches (slice_index t.seats (workshops t))) (NoRoom Benches))
     (refuse (nat_lt rows (length t.entries)) (NoRoom RoundTables)))
 
--- the same slices lie on the desk, whatever they hold
+-- the same slices lie on the desk, whatever they hold: who lent them has to know it after each call
 pub record SameSlices (old new : Desk) : Type 0 where
   pub rows : new.rows.ghost_name ≡ old.rows.ghost_name
   pub results : new.results.ghost_name ≡ old.results.ghost_name

@@ -30,7 +30,7 @@ pub struct Desk<'a> {
     pub benches: &'a mut [u32],
 }
 
-// The same slices once a run has ended, to be read.
+// The same slices, to be read: what a run left there, once it has ended. A struct of its own, since a shared slice is none to be written.
 #[derive(Clone, Copy)]
 pub struct Left<'a> {
     pub rows: &'a [u32],

@@ -25,7 +25,7 @@ fn has_room(sizes: Sizes, space: &Space) -> bool
         && sizes.rows <= space.row_points.len()
 }
 
-// The sums of the places.
+// The sums of the places. (The index is counted for the reason that stands at `fill_list`.)
 fn fill_seats(bytes: &[u8], workshops: usize, seats: &mut [u32])
     requires few { workshops ≤ 256 }
     requires there { places_from + workshops ≤ length bytes.now }

@@ -1,19 +1,28 @@
 // The view of a round over the slices that its tables were read into.
 ghost use Rattle.std.specs.Prelude.{◌≡◌};
 ghost use Rattle.layout.specs.Tables.{applicants as applicants_of, workshops as workshops_of};
+ghost use Rattle.codec.specs.Fronts.{fronts, Ready};
 ghost use Rattle.codec.specs.Rounds.{tables_of};
-ghost use Rattle.codec.specs.Spaces.{front, Holds};
 
-use crate::space::Space;
 use crate::tables::Round;
 use layout::Sizes;
 
 impl<'a> Round<'a> {
-    // The round that lies at the front of the space. Only what was read, or else is proved to be a round, can be viewed: without what
-    // is required here the tables would have to be judged once more, and `read` ensures exactly this.
-    pub fn over(sizes: Sizes, space: &'a Space<'_>) -> Round<'a>
-        requires { Holds sizes space.now }
-        ensures { tables_of result ≡ front sizes space.now }
+    // The round that lies at the front of the slices. Only what was read, or else is proved to be a round, can be viewed: without what
+    // is required here the tables would have to be judged once more, and `read` ensures exactly this. Seven slices and no `Space`, so that
+    // slices that are shared, and are nobody's to write, can be viewed too.
+    pub fn over(
+        sizes: Sizes,
+        seats: &'a [u32],
+        lots: &'a [u16],
+        starts: &'a [u32],
+        entries: &'a [u16],
+        row_starts: &'a [u32],
+        row_applicants: &'a [u16],
+        row_points: &'a [u16],
+    ) -> Round<'a>
+        requires { Ready sizes seats.now lots.now starts.now entries.now row_starts.now row_applicants.now row_points.now }
+        ensures { tables_of result ≡ fronts sizes seats.now lots.now starts.now entries.now row_starts.now row_applicants.now row_points.now }
     {
         let Sizes {
             applicants,
@@ -22,13 +31,13 @@ impl<'a> Round<'a> {
             rows,
         } = sizes;
         Round {
-            seats: &space.seats[0..workshops + 1],
-            lots: &space.lots[0..applicants],
-            starts: &space.starts[0..applicants + 1],
-            entries: &space.entries[0..listed],
-            row_starts: &space.row_starts[0..workshops + 1],
-            row_applicants: &space.row_applicants[0..rows],
-            row_points: &space.row_points[0..rows],
+            seats: &seats[0..workshops + 1],
+            lots: &lots[0..applicants],
+            starts: &starts[0..applicants + 1],
+            entries: &entries[0..listed],
+            row_starts: &row_starts[0..workshops + 1],
+            row_applicants: &row_applicants[0..rows],
+            row_points: &row_points[0..rows],
         }
     }
 

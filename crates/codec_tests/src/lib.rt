@@ -206,7 +206,23 @@ mod tests {
             row_points: &mut row_points,
         };
         let sizes = codec::read(&ROUND, &mut space)?;
-        let round = Round::over(sizes, &space);
+        assert_eq!(rt; seats, [0, 1, 3, 9]);
+        assert_eq!(rt; lots, [7, 3, 9]);
+        assert_eq!(rt; starts, [0, 2, 3, 9]);
+        assert_eq!(rt; entries, [0, 1, 1, 9]);
+        assert_eq!(rt; row_starts, [0, 1, 2, 9]);
+        assert_eq!(rt; row_applicants, [0, 1, 9]);
+        assert_eq!(rt; row_points, [5, 9, 9]);
+        let round = Round::over(
+            sizes,
+            &seats,
+            &lots,
+            &starts,
+            &entries,
+            &row_starts,
+            &row_applicants,
+            &row_points,
+        );
         assert_eq!(rt; round.applicants(), 2);
         assert_eq!(rt; round.workshops(), 2);
         let mut out = [8u8; 28];
@@ -217,13 +233,6 @@ mod tests {
             codec::write(&round, &mut out[0..26]),
             Err(Refusal::NoRoom(Lent::RoundTables))
         );
-        assert_eq!(rt; seats, [0, 1, 3, 9]);
-        assert_eq!(rt; lots, [7, 3, 9]);
-        assert_eq!(rt; starts, [0, 2, 3, 9]);
-        assert_eq!(rt; entries, [0, 1, 1, 9]);
-        assert_eq!(rt; row_starts, [0, 1, 2, 9]);
-        assert_eq!(rt; row_applicants, [0, 1, 9]);
-        assert_eq!(rt; row_points, [5, 9, 9]);
         Ok(())
     }
 }

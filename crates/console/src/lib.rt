@@ -16,7 +16,7 @@ use std::{fs, io};
 use texts::Fault;
 
 // Why a program ends with status 1: what there was to say has been said, the arguments are not as the usage here has them, there was
-// no memory, or nothing more could be printed.
+// no memory, or nothing more could be printed. A `Fault` is matched and no `From` makes it a failure, since a refusal has to be told first.
 #[derive(Clone, Copy, Debug)]
 pub enum Failed {
     Told,

@@ -36,7 +36,7 @@ impl fmt::Display for Cut {
     }
 }
 
-// The cut of the workshop with this bench.
+// The cut of the workshop with this bench, whose empty seats hold `u32::MAX`.
 pub fn cut_of(bench: &[u32], round: &Round) -> Cut
     ensures { result ≡ cut_of_bench (tables_of round.now) bench.now }
 {

@@ -1,5 +1,6 @@
 -- A round as tables of numbers: what is read from the bytes, and what every later part works on. n applicants, m workshops.
--- Then when tables are proper, that is, when they are the tables of some round. Definitions only.
+-- Then when tables are proper, that is, when they are the tables of some round. Definitions only, and at the end that tables are proper in
+-- one way.
 use Rattle.std.specs.Prelude.{◌≡◌, ℕ, ◌+◌, ◌-◌, ◌^◌, ◌<◌, ◌≤◌, Bool, true, false, not, ◌&&◌, ◌||◌, List, [], ◌∷◌, length, take, drop, ◌==◌, slice_index}
 use Rattle.std.proofs.Props.{props}
 

@@ -60,7 +60,7 @@ pub enum Refusal {
     NoRoom(Lent),
     // a letter that is no letter
     Malformed(usize),
-    // a letter whose place is not the first whose cut is reached; the place it should be
+    // a letter whose place is not the first whose cut is reached; the place it should be, or 255 for none, as the table of refusals has it
     NotFirst(usize),
 }
 

@@ -127,7 +127,16 @@ mod tests {
             row_points: &mut row_points,
         };
         let sizes = codec::read(&ROUND, &mut space)?;
-        let round = Round::over(sizes, &space);
+        let round = Round::over(
+            sizes,
+            &seats,
+            &lots,
+            &starts,
+            &entries,
+            &row_starts,
+            &row_applicants,
+            &row_points,
+        );
         assert!(rt; all_places(&round, &[3, 1, 0, 2]));
         assert!(rt; answers(&round));
         assert!(rt; rows_found(&round));

@@ -13,7 +13,7 @@ use codec::MOST_ENTRIES;
 use cuts::reaches;
 use layout::{Lot, Refusal};
 
-// The byte of a letter, and the number of a refusal, that say that no place was got.
+// The byte of a letter, and the number of a refusal, that say that no place was got: both are numbers by the format.
 const NO_PLACE: usize = 255;
 
 // What a letter that is right says beside its entries: whose it is, the lot, how many entries, and the position in the list that

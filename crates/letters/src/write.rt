@@ -66,7 +66,8 @@ pub fn write_letters(round: &Round, left: Left, out: &mut [u8]) -> Result<usize,
     Ok(len)
 }
 
-// The cuts of all workshops, worked out once for the many entries that name them.
+// The cuts of all workshops, worked out once for the many entries that name them. The index is that of the window, since nothing is known
+// of an array that was written through a zip.
 fn all_cuts(round: &Round, benches: &[u32]) -> [Cut; 256]
     requires { all_seats (tables_of round.now) ≤ length benches.now }
     ensures { CutsTold (tables_of round.now) benches.now result }

@@ -1,4 +1,5 @@
-// A round in owned memory: its tables, and that they are proper in the type itself.
+// A round in owned memory: its tables, and that they are proper in the type itself. A vector for each table, since the crates below are
+// lent slices of numbers and no structs.
 ghost use Rattle.layout.specs.Tables.{tables, Proper, proper_prop};
 
 #[derive(Drop)]

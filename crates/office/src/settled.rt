@@ -1,5 +1,5 @@
 // A settled round: its tables, each list entry's row, what each applicant is told, the benches and the letters, and that they are
-// those of the definitions in the type itself.
+// those of the definitions in the type itself. Results are numbers, with 255 for none, as they are lent to be written.
 ghost use Rattle.std.specs.Prelude.{◌≡◌};
 ghost use Rattle.round.specs.Market.{asks as asks_of, placed as placed_of};
 ghost use Rattle.points.specs.Standing.{market, rows_found};

@@ -24,7 +24,7 @@ fn letter_path(heap: Global, dir: &str, applicant: usize) -> Result<String, Allo
 }
 
 // All letters, each in a file of its own, which the applicant's number names. Where one cannot be written, says which it is and that those
-// before it are there.
+// before it are there: a match, since the line counts them.
 fn write_letters(rt: &HostRuntime, settled: &Settled, dir: &str) -> Result<(), Failed> {
     if let Err(e) = fs::create_dir_all(rt, dir) {
         eprintln!(rt; "run_round: cannot make the folder {dir}: {e}; no letter was written")?;

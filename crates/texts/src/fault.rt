@@ -5,7 +5,7 @@ ghost use Rattle.texts.specs.declared.fault.Fault.TheVariants.{Refused, NoMemory
 use layout::Refusal;
 use std::alloc::AllocError;
 
-// The bytes are refused, or they have no fault and memory ran out.
+// The bytes are refused, or memory ran out: an error of two causes. That memory ran out is told only of bytes without a fault.
 #[derive(Clone, Copy, PartialEq, Eq, Debug)]
 pub enum Fault {
     Refused(Refusal),

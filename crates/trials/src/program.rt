@@ -125,6 +125,15 @@ pub(crate) fn settle(alloc: Global, case: &Case) -> Result<Answer, Check> {
         row_points: &mut row_points,
     };
     let sizes = read(bytes.as_slice(), &mut space)?;
-    let round = Round::over(sizes, &space);
+    let round = Round::over(
+        sizes,
+        &seats,
+        &lots,
+        &starts,
+        &entries,
+        &row_starts,
+        &row_applicants,
+        &row_points,
+    );
     ask_and_tell(alloc, case, &round)
 }

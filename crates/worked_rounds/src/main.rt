@@ -15,7 +15,7 @@ Prints for each FILE a line with its name, what run_round prints of the round in
 accepts. Of a round that is refused `refused NUMBER at PLACE` is printed, and the next one follows.
 ";
 
-// How many letters of the round are accepted.
+// How many letters of the round are accepted: a loop, since want of memory ends it.
 fn accepted(heap: Global, settled: &Settled) -> Result<usize, Failed> {
     let mut number = 0usize;
     for a in 0..settled.applicants() {

@@ -7,8 +7,6 @@ use Rattle.codec.specs.Rounds.{tables_of}
 use Rattle.points.specs.Standing.{rows_of_list, rows_found}
 use Rattle.points.proofs.Lots.{tables_proper}
 use Rattle.points.proofs.Cursors.{passed_none, passed_next, starts_le, found_more}
-use Rattle.layout.proofs.OfProper.{length_list_at}
-use Rattle.points.proofs.Theory.{list_named}
 use Rattle.points.proofs.merge.find_rows.Goals as goal
 
 pub loop-applicant-init : goal.loop-applicant-init
@@ -33,13 +31,6 @@ slice_bounds-find_list-end-in-loop-applicant c = omega (arith, starts_le (tables
 
 pub slice_bounds-find_list-end-in-loop-applicant-2 : goal.slice_bounds-find_list-end-in-loop-applicant-2
 slice_bounds-find_list-end-in-loop-applicant-2 c = omega (arith, starts_le (tables_of c.args.round.now) (tables_proper c.args.round.now) c.loop-applicant.applicant c.loop-applicant-test.true)
-
-pub find_list-requires-clause-named : goal.find_list-requires-clause-named
-find_list-requires-clause-named c =
-    let t : Tables = tables_of c.args.round.now in
-    let good : Proper t = tables_proper c.args.round.now in
-    let there : c.loop-applicant.applicant < applicants t = c.loop-applicant-test.true in
-    λ k h. list_named t good c.loop-applicant.applicant k 0 there (omega (arith, length_list_at t good c.loop-applicant.applicant there))
 
 pub returns : goal.returns
 unfolding rows_found

@@ -27,9 +27,9 @@ invariant_of-result c =
     record {
       proper =
           proper_like _ _
-          (same c.args.sizes c.args.space.now.seats.now c.args.space.now.lots.now c.args.space.now.starts.now c.args.space.now.entries.now c.args.space.now.row_starts.now c.args.space.now.row_applicants.now c.args.space.now.row_points.now)
+          (same c.args.sizes c.args.seats.now c.args.lots.now c.args.starts.now c.args.entries.now c.args.row_starts.now c.args.row_applicants.now c.args.row_points.now)
           c.requires.proper;
     }
 
 pub returns : goal.returns
-returns c = same c.args.sizes c.args.space.now.seats.now c.args.space.now.lots.now c.args.space.now.starts.now c.args.space.now.entries.now c.args.space.now.row_starts.now c.args.space.now.row_applicants.now c.args.space.now.row_points.now
+returns c = same c.args.sizes c.args.seats.now c.args.lots.now c.args.starts.now c.args.entries.now c.args.row_starts.now c.args.row_applicants.now c.args.row_points.now
