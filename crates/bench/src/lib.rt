@@ -47,8 +47,8 @@ fn seat_for(bench: &[u32], round: &Round, row: u32) -> Option<usize>
 }
 
 // A row asks for a seat on a bench, whose seats hold rows, best first, and `u32::MAX` where they are empty, since they are numbers of a
-// lent slice. The row in the last seat
-// is looked at first: if it stays ahead, the asker is turned down. Else it is out, and those behind the asker move down by one.
+// lent slice. The row in the last seat is looked at first: if it stays ahead, the asker is turned down. Else it is out, and those behind
+// the asker move down by one.
 pub fn ask(bench: &mut [u32], round: &Round, row: u32) -> Answer
     ensures bench { bench.new ≡ taken_in (row_worth (tables_of round.now)) row bench.old }
     ensures answer { result ≡ answer_of row (left_out (row_worth (tables_of round.now)) row bench.old) }

@@ -30,8 +30,8 @@ fn place_and_shift(row: usize, rows: usize) -> (usize, u32)
 }
 
 // The points of a row; none for a number that is no row. Many list entries have none, in no order that a processor could guess, so
-// nothing branches on it: with `get` and `map_or` here a full-size round takes 1.01 to 1.03 times the plain program's time, and 0.83
-// to 0.89 times with this (bench/run, best of all passes).
+// nothing branches on it: with `get` and `map_or` in its place full-size rounds took 1.01 to 1.03 times the plain program's time, where
+// the same program took 0.83 to 0.89 times with this (best times, when the two were tried beside each other).
 pub fn points_of(round: &Round, row: u32) -> Points
     ensures { result.0 ≡ points_of_row (tables_of round.now) row }
 {

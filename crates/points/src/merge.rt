@@ -41,9 +41,8 @@ fn find_row(round: &Round, passed: &mut [u32], w: usize, applicant: usize) -> Op
         .then_some((from + more) as u32)
 }
 
-// Writes, for each entry of an applicant's list, the number of its row, or `u32::MAX` where there is none, since rows are
-// numbers of a lent slice. The index is counted, because
-// nothing is known of a slice that was written through a zip.
+// Writes, for each entry of an applicant's list, the number of its row, or `u32::MAX` where there is none, since rows are numbers of a lent
+// slice. The index is counted, because nothing is known of a slice that was written through a zip.
 fn find_list(round: &Round, passed: &mut [u32], list: &[u16], applicant: usize, rows: &mut [u32])
     requires named { (k : ℕ) → k < length list.now → slice_index list.now k < workshops (tables_of round.now) }
     requires room { length rows.old ≡ length list.now }
