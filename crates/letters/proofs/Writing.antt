@@ -1,16 +1,14 @@
 -- Steps of writing letters: one more piece laid behind those that lie there, one entry more, and the lengths.
-use Rattle.std.proofs.Common.{◌≡◌, ℕ, ◌+◌, ◌-◌, ◌*◌, ◌<◌, ◌≤◌, ◌≢◌, List, [], ◌∷◌, ◌++◌, length, get_or, take, drop, set, None, sym, refl, ap, ◌∙◌, append_assoc, add-zero, arith, below_more}
+use Rattle.std.proofs.Common.{◌≡◌, ℕ, ◌+◌, ◌-◌, ◌*◌, ◌<◌, ◌≤◌, ◌≢◌, List, [], ◌∷◌, ◌++◌, length, get_or, take, drop, set, sym, refl, ap, ◌∙◌, append_assoc, add-zero, arith, below_more}
 use borrow.Rule.Slice.PartMut.{put_mid}
 use Rattle.std.specs.List.{flat_map}
 use Rattle.std.proofs.lemmas.List.{append-nil, take_rest, take_at, drop_at, drop-drop, drop_all, drop_more, set_at, get_or-set_same, get_or-set_other, get_or-take, get_or-drop, length-drop, length-append, length_push, flat_map_more}
-use Rattle.std.proofs.lemmas.Bool.Decides.{nat_tests}
 use Rattle.layout.specs.Slices.{table, flat, over}
 use Rattle.layout.proofs.Flats.{table_more, length_table, length_flat}
 use Rattle.layout.proofs.Offsets.{rises}
 use Rattle.layout.specs.Tables.{Tables, Started, applicants, list_length}
-use Rattle.asking.specs.Ended.{no_room}
 use Rattle.letters.specs.Letter.{Letter, entry_bytes, encode_letter}
-use Rattle.letters.specs.Written.{all_seats, entry_from, letter_from, letter_bytes, letter_length, all_length}
+use Rattle.letters.specs.Written.{entry_from, letter_from, letter_bytes, letter_length, all_length}
 use Rattle.letters.specs.declared.entry.Entry.{Entry}
 
 -- ys laid over a part from the middle, behind xs, are laid behind xs over the whole
@@ -82,12 +80,6 @@ pub length_encode_letter : (l : Letter) → length (encode_letter l) ≡ 6 + 8 *
 unfolding encode_letter
 length_encode_letter l =
     omega (arith, length-append (flat_map entry_bytes l.entries) (l.place ∷ []), length_joined_entries l.entries)
-
--- lists that are long enough
-pub room_there : (t : Tables) (results benches rows : ℕ) → no_room t results benches rows ≡ None →
-    (applicants t ≤ results) × (all_seats t ≤ benches) × (length t.entries ≤ rows)
-room_there t results benches rows h =
-    (grind (arith, nat_tests), grind (arith, nat_tests), grind (arith, nat_tests))
 
 -- where the letters of a round lie: each is six bytes and eight for each entry
 abbrev pub letter_at : Tables → ℕ → ℕ

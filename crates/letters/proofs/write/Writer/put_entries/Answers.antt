@@ -10,7 +10,8 @@ use Rattle.codec.specs.Rounds.{tables_of}
 use Rattle.letters.specs.Letter.{entry_bytes}
 use Rattle.letters.specs.Written.{entry_with, entry_from, entries_from}
 use Rattle.letters.specs.declared.entry.Entry.{Entry}
-use Rattle.letters.proofs.Writing.{item_more, part_item, room_there, over_bytes, joined_table_more, length_joined_entries}
+use Rattle.asking.proofs.Begin.{room_there}
+use Rattle.letters.proofs.Writing.{item_more, part_item, over_bytes, joined_table_more, length_joined_entries}
 use Rattle.letters.proofs.write.Writer.put_entries.Goals as goal
 
 pub entry-requires : goal.entry-requires
