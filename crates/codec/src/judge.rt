@@ -190,6 +190,15 @@ fn judge_rows(reader: &mut Reader, head: Head, rows: usize) -> Result<(), Refusa
     Ok(())
 }
 
+// The fault of the numbers of applicants and of workshops, if one of them is not there or no round's: what is looked at first, and needs
+// no more than the first bytes.
+pub fn check_head(bytes: &[u8]) -> Result<(), Refusal>
+    ensures { result ≡ outcome (head_fault bytes.now) tt }
+{
+    judge_head(&mut Reader::new(bytes))?;
+    Ok(())
+}
+
 // The sizes of the round that the bytes are, or the first fault. Nothing is written.
 pub fn check(bytes: &[u8]) -> Result<Sizes, Refusal>
     ensures { result ≡ outcome (fault bytes.now) (sizes_in bytes.now) }

@@ -2,7 +2,7 @@
 use Rattle.std.proofs.Common.{◌≡◌, ℕ, List, length, drop, ap, ◌∙◌, vec_items, vec_len, Vec, Ok, Result, arith}
 use Rattle.std.specs.Vec.{with_items}
 use Rattle.std.proofs.lemmas.List.{take_at}
-use Rattle.layout.specs.Slices.{over, laid}
+use Rattle.layout.specs.Slices.{laid}
 use Rattle.layout.specs.Tables.{tables}
 use Rattle.codec.proofs.Puts.{over_whole}
 

@@ -1,13 +1,13 @@
 // Reading a round into memory of its own.
-ghost use Rattle.std.specs.Prelude.{◌≡◌, Ok, MatchResult};
-ghost use Rattle.layout.specs.Bytes.{fault, decode};
+ghost use Rattle.std.specs.Prelude.{◌≡◌, Ok, Some, MatchResult};
+ghost use Rattle.layout.specs.Bytes.{fault, sizes_in, decode};
 ghost use Rattle.texts.specs.Faults.{Faulty};
 ghost use Rattle.office.specs.Facts.{FaultyUnlessNoMemory};
 ghost use Rattle.office.specs.Owned.{tables_owned};
 
 use crate::owned::OwnedRound;
-use codec::Space;
-use layout::Sizes;
+use codec::{MOST_APPLICANTS, MOST_ENTRIES, MOST_ROWS, Space};
+use layout::{Refusal, Sizes};
 use std::alloc::Global;
 use texts::Fault;
 
@@ -24,7 +24,20 @@ pub(crate) fn read_owned(heap: Global, bytes: &[u8]) -> Result<OwnedRound, Fault
     read
 }
 
-// Reads a round into memory of the sizes that the bytes name, which nobody has judged yet.
+// The sizes that the bytes name. Nobody has judged them yet, but where they are beyond every round's: those are refused here. So no memory
+// is asked for that the largest round does not take, and no more records are gone over than it has.
+fn sizes_named(bytes: &[u8]) -> Result<Sizes, Refusal>
+    ensures { MatchResult result (λ sizes. sizes ≡ sizes_in bytes.now) (λ e. fault bytes.now ≡ Some e) }
+{
+    codec::check_head(bytes)?;
+    let sizes = codec::measure(bytes);
+    if sizes.entries > MOST_APPLICANTS * MOST_ENTRIES as usize || sizes.rows > MOST_ROWS {
+        return codec::check(bytes);
+    }
+    Ok(sizes)
+}
+
+// Reads a round into memory of the sizes that the bytes name.
 fn read_named(heap: Global, bytes: &[u8]) -> Result<OwnedRound, Fault>
     ensures { MatchResult result (λ o. decode bytes.now ≡ Ok (tables_owned o)) (FaultyUnlessNoMemory (fault bytes.now)) }
 {
@@ -33,7 +46,7 @@ fn read_named(heap: Global, bytes: &[u8]) -> Result<OwnedRound, Fault>
         workshops,
         entries: listed,
         rows,
-    } = codec::measure(bytes);
+    } = sizes_named(bytes)?;
     let mut seats = vec![in heap; 0u32; workshops + 1]?;
     let mut lots = vec![in heap; 0u16; applicants]?;
     let mut starts = vec![in heap; 0u32; applicants + 1]?;

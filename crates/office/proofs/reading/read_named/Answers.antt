@@ -1,4 +1,5 @@
-use Rattle.std.proofs.Common.{rules, sym, ap, ◌∙◌, Ok, arith}
+use Rattle.std.proofs.Common.{◌≡◌, rules, sym, ap, ◌∙◌, Ok, arith}
+use Rattle.std.proofs.lemmas.Result.{MatchResult-at_ok}
 use Rattle.layout.specs.Encode.{BytesOnly}
 use Rattle.layout.specs.Slices.{or_else}
 use Rattle.layout.specs.Bytes.{fault, sizes_in, tables_in, decode}
@@ -16,10 +17,11 @@ pub invariant_of-result : goal.invariant_of-result
 invariant_of-result c =
     let b = c.args.bytes.now in
     let small : BytesOnly b = λ k _. omega (arith, c.type_inv.bytes k) in
-    let n = ap (λ (z : Sizes). z.applicants) c.measure-applicants.ensures in
-    let m = ap (λ (z : Sizes). z.workshops) c.measure-applicants.ensures in
-    let listed = ap (λ (z : Sizes). z.entries) c.measure-applicants.ensures in
-    let k = ap (λ (z : Sizes). z.rows) c.measure-applicants.ensures in
+    let named : _ ≡ sizes_in b = MatchResult-at_ok _ _ _ c.in_ok-applicants.was c.sizes_named.ensures in
+    let n = ap (λ (z : Sizes). z.applicants) named in
+    let m = ap (λ (z : Sizes). z.workshops) named in
+    let listed = ap (λ (z : Sizes). z.entries) named in
+    let k = ap (λ (z : Sizes). z.rows) named in
     let answer = none_from_ok (or_else (fault b) _) (sizes_in b) _ (sym c.in_ok-read.was ∙ c.read.ensures.answer) in
     let none = (or_else_none (fault b) _ answer.0).0 in
     record {
@@ -39,10 +41,11 @@ pub returns : goal.returns
 unfolding decode
 returns c =
     let b = c.args.bytes.now in
-    let n = ap (λ (z : Sizes). z.applicants) c.measure-applicants.ensures in
-    let m = ap (λ (z : Sizes). z.workshops) c.measure-applicants.ensures in
-    let listed = ap (λ (z : Sizes). z.entries) c.measure-applicants.ensures in
-    let k = ap (λ (z : Sizes). z.rows) c.measure-applicants.ensures in
+    let named : _ ≡ sizes_in b = MatchResult-at_ok _ _ _ c.in_ok-applicants.was c.sizes_named.ensures in
+    let n = ap (λ (z : Sizes). z.applicants) named in
+    let m = ap (λ (z : Sizes). z.workshops) named in
+    let listed = ap (λ (z : Sizes). z.entries) named in
+    let k = ap (λ (z : Sizes). z.rows) named in
     let answer = none_from_ok (or_else (fault b) _) (sizes_in b) _ (sym c.in_ok-read.was ∙ c.read.ensures.answer) in
     let none = (or_else_none (fault b) _ answer.0).0 in
     let held = tables_same _ _ _ _ _ _ _ _ _ _ _ _ _ _
