@@ -9,6 +9,7 @@ ghost use Rattle.cuts.specs.Words.{cut_words};
 mod laws;
 
 use codec::Round;
+use itoa::Buffer;
 pub use laws::{cuts_defined, told_by_cuts};
 use layout::{Lot, Points};
 use points::{goes_ahead, standing};
@@ -31,7 +32,12 @@ impl fmt::Display for Cut {
         match self {
             Cut::Open => write!(f, "open"),
             Cut::Shut => write!(f, "shut"),
-            Cut::Full(Points(points), Lot(lot)) => write!(f, "{points} lot {lot}"),
+            Cut::Full(Points(points), Lot(lot)) => {
+                let (mut p, mut l) = (Buffer::new(), Buffer::new());
+                let points = p.format(*points);
+                let lot = l.format(*lot);
+                write!(f, "{points} lot {lot}")
+            }
         }
     }
 }
