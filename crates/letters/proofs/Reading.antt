@@ -1,6 +1,6 @@
 -- Steps of reading a letter: what an outcome says of a fault, the first of several faults, and one entry more.
 use Rattle.std.proofs.Common.{◌≡◌, ℕ, ◌+◌, ◌<◌, ◌≤◌, Bool, true, false, cond, not, eqb, List, length, get_or, set, Some, None, Ok, Err, Option, Result, unwrap_or, refl, inl, inr, add-one, arith}
-use Rattle.std.specs.Option.{option_eq, option_or}
+use Rattle.std.specs.Option.{MatchOption, option_eq, option_or}
 use Rattle.std.specs.Bool.{then_some}
 use Rattle.std.proofs.lemmas.List.{get_or-set_same, get_or-set_other}
 use Rattle.std.proofs.lemmas.Bool.{cases_eq}
@@ -58,6 +58,11 @@ first_that_more f j = rw (add-one j) (step (first_that f j) (f j))
     step None true = refl
     step None false = refl
     step (Some i) b = refl
+
+-- what is there, and otherwise what is looked for
+pub or_else_is : {A : Type 0} (o r v : Option A) (P : Type 0) → MatchOption o P (λ x. r ≡ Some x) → (P → r ≡ v) → r ≡ option_or o v
+or_else_is None r v P found looked = looked found
+or_else_is (Some x) r v P found looked = found
 
 -- a place is the first that is reached as a number exactly if it is as a position: 255 is no position
 position_of_first : (o : Option ℕ) → unwrap_or o 255 ≡ position o
