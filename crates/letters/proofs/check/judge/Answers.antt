@@ -1,5 +1,6 @@
 -- The faults in turn: the head's, the entries', the end's, and then the place.
-use Rattle.std.proofs.Common.{◌≡◌, ℕ, ◌≤◌, true, false, List, None, Ok, Option, refl, ap, ◌∙◌, arith}
+use Rattle.std.proofs.Common.{◌≡◌, ℕ, ◌≤◌, true, false, not, eqb, List, None, Ok, Option, refl, ap, ◌∙◌, arith, rules}
+use Rattle.std.specs.Option.{option_eq}
 use Rattle.std.proofs.lemmas.Result.{err_from_is_err_and}
 use Rattle.std.proofs.lemmas.Bool.Decides.{nat_tests}
 use Rattle.layout.specs.Bytes.{byte, word, first_of}
@@ -68,7 +69,8 @@ returns c =
     let head = none_from_ok (head_fault b) _ _ c.in_ok-count.ensures.read in
     let listed = none_from_ok (entries_fault b) (first_that (reached_in b) (count_in b)) _ c.in_ok-first.ensures in
     let end = none_from_ok (end_fault b) (place_told (byte b (place_at b))) _ c.in_ok-place.ensures in
-    let right = place_fault_is b (few_entries b head.0) _ _ false _ end.1 listed.1 c.if-ne.ensures refl in
+    let same : false ≡ not (option_eq eqb c.in_ok-place.place c.in_ok-first.first) = search rules in
+    let right = place_fault_is b (few_entries b head.0) _ _ false _ end.1 listed.1 same refl in
     let applicant : c.from_le_bytes-2.result ≡ word b 0 = omega arith in
     let lot : c.from_le_bytes.result ≡ word b 2 = omega arith in
     let good = no_fault (head_fault b) (entries_fault b) (end_fault b) (place_fault b) (verdict_in b) head.0 listed.0 end.0 right in
