@@ -92,7 +92,9 @@ impl Got {
 
     // How many of the applicants are placed at w.
     pub(crate) fn number_at(&self, w: usize) -> usize {
-        self.workshops.iter().filter(|v| **v == Some(w)).count()
+        self.workshops.iter().fold(0, |number: usize, v| {
+            number.saturating_add(usize::from(*v == Some(w)))
+        })
     }
 
     // How many of the applicants are placed.
@@ -105,7 +107,7 @@ impl Got {
 #[derive(Clone, Copy)]
 pub struct Assigned<'a> {
     pub case: &'a Case,
-    pub got: Got,
+    pub got: &'a Got,
 }
 
 // One of the applicants of an assigned round, to whom a letter goes.

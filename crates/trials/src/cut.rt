@@ -39,13 +39,16 @@ impl<'a> Assigned<'a> {
         if places == 0 {
             return Cut::Shut;
         }
-        match self.last_at(w) {
-            Some((_, last)) if self.got.number_at(w) >= places => Cut::Full {
+        if self.got.number_at(w) < places {
+            return Cut::Open;
+        }
+        self.last_at(w).map_or(
+            Cut::Open,
+            |(_, last)| Cut::Full {
                 points: last.points_at(w).unwrap_or(0),
                 lot: last.lot,
             },
-            _ => Cut::Open,
-        }
+        )
     }
 }
 

@@ -35,21 +35,21 @@ fn draw_lots(draw: &mut Draw) -> [u16; APPLICANTS] {
     lots
 }
 
-// A list: as many workshops as come up in the tries, none twice.
+// Another list in place of what was in `wishes`: as many workshops as come up in the tries, none twice.
 pub(crate) fn draw_wishes(
-    alloc: Global,
+    wishes: &mut Vec<usize>,
     workshops: usize,
     tries: usize,
     draw: &mut Draw,
-) -> Result<Vec<usize>, AllocError> {
-    let mut wishes = Vec::new(alloc);
+) -> Result<(), AllocError> {
+    wishes.clear();
     for _ in 0..tries {
         let w = draw.below(workshops);
         if !wishes.contains(&w) {
             wishes.push(w)?;
         }
     }
-    Ok(wishes)
+    Ok(())
 }
 
 // What an applicant is given at a workshop; none for no row.
@@ -80,10 +80,12 @@ fn open_case(
     let way = WAYS[draw.below(WAYS.len())];
     for _ in 0..applicants {
         let tries = draw.below(9);
+        let mut wishes = Vec::new(alloc);
+        draw_wishes(&mut wishes, workshops, tries, draw)?;
         case.applicants.push(Applicant {
             // drawn when the applicants are there
             lot: 0,
-            wishes: draw_wishes(alloc, workshops, tries, draw)?,
+            wishes,
             points: (0..workshops)
                 .map(|_| draw_points(way, draw))
                 .collect(alloc)?,
@@ -107,9 +109,10 @@ fn crossed_case(alloc: Global, size: usize, draw: &mut Draw) -> Result<Case, All
         let mut applicant = Applicant {
             // drawn when the applicants are there
             lot: 0,
-            wishes: draw_wishes(alloc, size, 10, draw)?,
+            wishes: Vec::new(alloc),
             points: Vec::new(alloc),
         };
+        draw_wishes(&mut applicant.wishes, size, 10, draw)?;
         applicant.points = (0..size)
             .map(|w| Some(crossed_points(applicant.place_of(w), draw)))
             .collect(alloc)?;

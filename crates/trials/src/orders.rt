@@ -101,34 +101,28 @@ fn next_to_ask(case: &Case, asked: &State, got: &Got, draw: &mut Draw) -> Option
 }
 
 // The applicant sits down on the bench of w, if it has points there, and the last gets up where there are too many.
-fn sit_down(round: &mut Assigned, w: usize, a: usize) {
-    let applicant = round.case.applicants.get(a);
+fn sit_down(case: &Case, got: &mut Got, w: usize, a: usize) {
+    let applicant = case.applicants.get(a);
     if applicant.is_some_and(|applicant| applicant.points_at(w).is_some()) {
-        round.got.set(a, Some(w));
-        if round.got.number_at(w) > round.case.places_at(w)
-            && let Some((last, _)) = round.last_at(w)
+        got.set(a, Some(w));
+        if got.number_at(w) > case.places_at(w)
+            && let Some((last, _)) = (Assigned { case, got }).last_at(w)
         {
-            round.got.set(last, None);
+            got.set(last, None);
         }
     }
 }
 
 pub(crate) fn one_by_one(case: &Case, draw: &mut Draw) -> Ended {
-    let mut round = Assigned {
-        case,
-        got: Got::nothing(),
-    };
+    let mut got = Got::nothing();
     let mut asked = State::first();
     let mut asks = 0usize;
     for _ in 0..25 {
-        if let Some((a, w)) = next_to_ask(case, &asked, &round.got, draw) {
+        if let Some((a, w)) = next_to_ask(case, &asked, &got, draw) {
             asked.move_on(a);
             asks = asks.saturating_add(1);
-            sit_down(&mut round, w, a);
+            sit_down(case, &mut got, w, a);
         }
     }
-    Ended {
-        got: round.got,
-        asks,
-    }
+    Ended { got, asks }
 }

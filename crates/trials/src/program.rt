@@ -41,8 +41,8 @@ impl Settled<'_> {
     }
 
     fn cuts(&self, alloc: Global) -> Result<Vec<Cut>, Check> {
-        let mut cuts = Vec::new(alloc);
         let seats = self.round.seats;
+        let mut cuts = Vec::with_capacity(alloc, seats.len())?;
         for (from, to) in seats.iter().zip(seats.iter().skip(1)) {
             let bench = self.left.benches.get(*from as usize..*to as usize);
             cuts.push(match cut_of(bench.ok_or(Check::Settled)?, self.round) {
@@ -54,23 +54,23 @@ impl Settled<'_> {
         Ok(cuts)
     }
 
-    // Whether the program's letter is the one that the trials write.
-    fn is_letter_same(&self, alloc: Global, addressee: Addressee) -> Result<bool, AllocError> {
+    // Whether the program's letter is the one that the trials write, which goes into `own`.
+    fn is_letter_same(&self, own: &mut Vec<u8>, addressee: Addressee) -> Result<bool, AllocError> {
         let mut out = [0u8; 40];
         let len = write_letter(self.round, self.left, addressee.number, &mut out);
-        let own = addressee.letter(alloc, addressee.place())?;
+        addressee.letter(own, addressee.place())?;
         Ok(len.is_ok_and(|len| out.get(..len) == Some(own.as_slice())))
     }
 
-    // The same of all applicants. A loop, since `all` could not hand on that memory has run out.
-    fn are_letters_same(&self, alloc: Global, assigned: Assigned) -> Result<bool, AllocError> {
+    // The same of all applicants, with `own` for the letters. A loop, since `all` could not hand on that memory has run out.
+    fn are_letters_same(&self, own: &mut Vec<u8>, assigned: Assigned) -> Result<bool, AllocError> {
         for (number, applicant) in assigned.case.applicants.iter().enumerate() {
             let addressee = Addressee {
                 round: assigned,
                 number,
                 applicant,
             };
-            if !self.is_letter_same(alloc, addressee)? {
+            if !self.is_letter_same(own, addressee)? {
                 return Ok(false);
             }
         }
@@ -78,8 +78,13 @@ impl Settled<'_> {
     }
 }
 
-// What is said of a round that was read.
-fn ask_and_tell(alloc: Global, case: &Case, round: &Round) -> Result<Answer, Check> {
+// What is said of a round that was read, with `bytes` for the trials' own letters.
+fn ask_and_tell(
+    alloc: Global,
+    case: &Case,
+    round: &Round,
+    bytes: &mut Vec<u8>,
+) -> Result<Answer, Check> {
     let mut rows = [0u32; 20];
     let mut results = [0u16; 5];
     let mut benches = [0u32; 12];
@@ -100,14 +105,14 @@ fn ask_and_tell(alloc: Global, case: &Case, round: &Round) -> Result<Answer, Che
     }
     Ok(Answer {
         ended: Ended { got, asks },
-        letters: settled.are_letters_same(alloc, Assigned { case, got })?,
+        letters: settled.are_letters_same(bytes, Assigned { case, got: &got })?,
         cuts,
     })
 }
 
 // What the program says; an error where it refuses the round, or where its numbers do not fit each other.
 pub(crate) fn settle(alloc: Global, case: &Case) -> Result<Answer, Check> {
-    let bytes = bytes::write(alloc, case)?;
+    let mut bytes = bytes::write(alloc, case)?;
     let mut seats = [0u32; 5];
     let mut lots = [0u16; 5];
     let mut starts = [0u32; 6];
@@ -135,5 +140,5 @@ pub(crate) fn settle(alloc: Global, case: &Case) -> Result<Answer, Check> {
         &row_applicants,
         &row_points,
     );
-    ask_and_tell(alloc, case, &round)
+    ask_and_tell(alloc, case, &round, &mut bytes)
 }

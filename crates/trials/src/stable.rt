@@ -70,21 +70,24 @@ fn assignments(case: &Case) -> usize {
     })
 }
 
-// The assignment with a number: its digits to the base of one more than there are workshops.
-fn assignment(case: &Case, number: usize) -> Got {
-    let workshops = case.places.len();
-    let mut got = Got::nothing();
-    let mut rest = number;
+// Counts an assignment up, as a number by its digits: after a workshop comes the next, after the last none, and after none the first
+// again, and then the next applicant's is counted up too. So after the last assignment, nothing for anybody, comes the first.
+fn count_up(case: &Case, got: &mut Got) {
     for (own, _) in got.workshops.iter_mut().zip(&case.applicants) {
-        *own = Some(rest % (workshops + 1)).filter(|w| *w < workshops);
-        rest /= workshops + 1;
+        let before = *own;
+        *own = Some(before.map_or(0, |w| w.saturating_add(1))).filter(|w| *w < case.places.len());
+        if before.is_some() {
+            return;
+        }
     }
-    got
 }
 
 pub(crate) fn stable_assignments(alloc: Global, case: &Case) -> Result<Vec<Got>, AllocError> {
+    let mut got = Got::nothing();
     (0..assignments(case))
-        .map(|number| assignment(case, number))
-        .filter(|got| Assigned { case, got: *got }.is_stable())
+        .filter_map(|_| {
+            count_up(case, &mut got);
+            Assigned { case, got: &got }.is_stable().then_some(got)
+        })
         .collect(alloc)
 }

@@ -115,30 +115,35 @@ impl Trial<'_> {
         self.passed(Check::Renumbered, ok)
     }
 
-    // With another list an applicant gets nothing that its true list has before what it got with that.
-    fn other_lists(&mut self, a: usize, applicant: &Applicant) -> Result<(), Check> {
+    // With another list an applicant gets nothing that its true list has before what it got with that. In `other` only that list is
+    // another one.
+    fn other_lists(
+        &mut self,
+        other: &mut Case,
+        a: usize,
+        applicant: &Applicant,
+    ) -> Result<(), Check> {
+        let workshops = other.places.len();
         for _ in 0..6 {
-            let mut other = self.case.clone()?;
-            let wishes = make::draw_wishes(self.alloc, other.places.len(), 6, self.draw)?;
             if let Some(liar) = other.applicants.get_mut(a) {
-                liar.wishes = wishes;
+                make::draw_wishes(&mut liar.wishes, workshops, 6, self.draw)?;
             }
-            let w = self.settled(&other)?.got.of(a);
+            let w = self.settled(other)?.got.of(a);
             let dearer = applicant.is_dearer(w, self.ended.got.of(a));
             self.passed(Check::OtherList, !dearer)?;
         }
         Ok(())
     }
 
-    // With its list, nobody else gets anything dearer than where it is empty.
-    fn one_more(&mut self, a: usize) -> Result<(), Check> {
-        let mut fewer = self.case.clone()?;
+    // With its list, nobody else gets anything dearer than where it is empty, as it is made in `fewer`.
+    fn one_more(&mut self, fewer: &mut Case, a: usize) -> Result<(), Check> {
         if let Some(applicant) = fewer.applicants.get_mut(a) {
             applicant.wishes.clear();
         }
+        let ended = self.settled(fewer)?;
         let before = Assigned {
-            case: &fewer,
-            got: self.settled(&fewer)?.got,
+            case: fewer,
+            got: &ended.got,
         };
         let ok = before.none_dearer_in(&self.ended.got);
         self.passed(Check::OneMore, ok)
@@ -146,9 +151,10 @@ impl Trial<'_> {
 
     // All checks, up to the first that is not passed.
     fn run(&mut self, answer: &Answer) -> Result<(), Check> {
+        let got = self.ended.got;
         let round = Assigned {
             case: self.case,
-            got: self.ended.got,
+            got: &got,
         };
         self.sort_of_round()?;
         self.cuts(round, answer)?;
@@ -158,8 +164,9 @@ impl Trial<'_> {
             self.renumbered()?;
         }
         for (a, applicant) in self.case.applicants.iter().enumerate() {
-            self.other_lists(a, applicant)?;
-            self.one_more(a)?;
+            let mut other = self.case.clone()?;
+            self.other_lists(&mut other, a, applicant)?;
+            self.one_more(&mut other, a)?;
         }
         Ok(())
     }
