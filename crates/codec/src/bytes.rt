@@ -1,6 +1,6 @@
 // The reading of the bytes of a round from the front: each reader hands on the number that stands next and moves behind it, or hands on
 // nothing where the bytes end before it.
-ghost use Rattle.std.specs.Prelude.{◌≡◌, ◌+◌, ◌≤◌, length, option_copied, slice_range, OnSome};
+ghost use Rattle.std.specs.Prelude.{◌≡◌, ◌+◌, ◌≤◌, length, option_copied, is_some, slice_range, OnSome, if◌then◌else◌};
 ghost use Rattle.layout.specs.Bytes.{byte, word};
 
 // The bytes, and where the next number stands: never past their end. Each method says that the bytes stay, which a type cannot say of a
@@ -25,7 +25,7 @@ impl<'a> Reader<'a> {
     // The next N bytes.
     fn take<const N: usize>(&mut self) -> Option<&'a [u8; N]>
         ensures answer { option_copied result ≡ there self.old.bytes.now self.old.at N (slice_range self.old.bytes.now self.old.at (self.old.at + N)) }
-        ensures moved { OnSome result (self.new.at ≡ self.old.at + N) }
+        ensures moved { self.new.at ≡ (if is_some result then self.old.at + N else self.old.at) }
         ensures same { self.new.bytes.now ≡ self.old.bytes.now }
     {
         let next = self.bytes[self.at..].first_chunk::<N>();
@@ -53,6 +53,18 @@ impl<'a> Reader<'a> {
     {
         let pair = self.take::<2>()?;
         Some(u16::from_le_bytes(*pair))
+    }
+
+    // The next byte and the two numbers of two bytes behind it: one test for all five bytes.
+    pub(crate) fn row(&mut self) -> Option<(u8, u16, u16)>
+        ensures answer { result ≡ there self.old.bytes.now self.old.at 5 (byte self.old.bytes.now self.old.at, word self.old.bytes.now (self.old.at + 1), word self.old.bytes.now (self.old.at + 3)) }
+        ensures moved { self.new.at ≡ (if is_some result then self.old.at + 5 else self.old.at) }
+        ensures same { self.new.bytes.now ≡ self.old.bytes.now }
+    {
+        let [workshop, low, high, points_low, points_high] = *self.take::<5>()?;
+        let applicant = u16::from_le_bytes([low, high]);
+        let points = u16::from_le_bytes([points_low, points_high]);
+        Some((workshop, applicant, points))
     }
 }
 

@@ -33,9 +33,9 @@ impl fmt::Display for Cut {
             Cut::Open => write!(f, "open"),
             Cut::Shut => write!(f, "shut"),
             Cut::Full(Points(points), Lot(lot)) => {
-                let (mut p, mut l) = (Buffer::new(), Buffer::new());
-                let points = p.format(*points);
-                let lot = l.format(*lot);
+                let (mut points_digits, mut lot_digits) = (Buffer::new(), Buffer::new());
+                let points = points_digits.format(*points);
+                let lot = lot_digits.format(*lot);
                 write!(f, "{points} lot {lot}")
             }
         }

@@ -1,5 +1,5 @@
 // One printed line each, put behind a text. Numbers become digits in a buffer of `itoa` first: as numbers in the line itself they made it
-// take some 1.7 times as long.
+// take some 1.5 times as long.
 ghost use Rattle.std.specs.Prelude.{◌≡◌, ◌++◌, string_bytes, OnOk};
 ghost use Rattle.texts.specs.Text.{head_line, placed_line, none_line, cut_line};
 
