@@ -158,7 +158,7 @@ fn judge_cut_row(reader: &mut Reader, head: Head) -> Refusal
 
 // A row, which may not come before `least`. The next row may not come before the answer. Its five bytes are taken at once: one test for
 // them in place of three. The order of two marks is written out: derived, and asked for by `<`, it made the whole program some 4 % slower
-// on full-size rounds (3.13 ms for 3.01, 3.20 for 3.06), of which one stands at 0.99 of the plain program's time already.
+// on full-size rounds (3.13 ms for 3.01, 3.20 for 3.06).
 fn judge_row(reader: &mut Reader, head: Head, least: Mark) -> Result<Mark, Refusal>
     ensures answer { result ≡ outcome (row_fault_at reader.old.bytes.now head.applicants head.workshops least.workshop least.applicant reader.old.at) (record { workshop = byte reader.old.bytes.now reader.old.at; applicant = word reader.old.bytes.now (reader.old.at + 1) + 1 }) }
     ensures moved { OnOk result (Stands reader.new reader.old.bytes.now (reader.old.at + 5)) }
